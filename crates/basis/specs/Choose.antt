@@ -1,0 +1,50 @@
+-- A choice between two values by a test, with its two laws, and the two ways to decide an order or an equation of numbers.
+use mathlib.Core.Path.{_≡_, refl, sym, _∙_}
+use mathlib.Core.Bool.{Bool, true, false}
+use mathlib.Core.Logic.{_⊎_, inl, inr, ⊎-elim}
+use Prim.Native.Nat.{ℕ, _≤_, _<_}
+use native.Mathlib.Nat.{not-le-of-lt}
+use lib.Dec.{leb, ltb, eqb}
+use borrow.Author.Tests.{lt-ltb, le-ltb, le-leb, lt-leb, eq-eqb, ne-eqb, leb-true, leb-false, eqb-true, eqb-false}
+
+-- x where the test holds, y where it does not
+unfoldable pub choose : {A : Type 0} → Bool → A → A → A
+choose true x y = x
+choose false x y = y
+
+pub choose-yes : {A : Type 0} (b : Bool) (x y : A) → b ≡ true → choose b x y ≡ x
+unfolding choose
+choose-yes true x y h = refl
+choose-yes false x y h = let z : _≡_ {A = Bool} true false = sym h in cc
+
+pub choose-no : {A : Type 0} (b : Bool) (x y : A) → b ≡ false → choose b x y ≡ y
+unfolding choose
+choose-no true x y h = cc
+choose-no false x y h = refl
+
+-- the same laws as a return of a branch asks them
+pub yes-so : {A : Type 0} (b : Bool) (r x y : A) → b ≡ true → r ≡ x → r ≡ choose b x y
+yes-so b r x y h e = e ∙ sym (choose-yes b x y h)
+
+pub no-so : {A : Type 0} (b : Bool) (r x y : A) → b ≡ false → r ≡ y → r ≡ choose b x y
+no-so b r x y h e = e ∙ sym (choose-no b x y h)
+
+pub ruleset cases = (yes-so, no-so, lt-ltb, le-ltb, le-leb, lt-leb, eq-eqb, ne-eqb)
+
+pub bool-cases : (b : Bool) → (b ≡ true) ⊎ (b ≡ false)
+bool-cases true = inl refl
+bool-cases false = inr refl
+
+pub le-or-lt : (a b : ℕ) → (a ≤ b) ⊎ (b < a)
+le-or-lt a b = ⊎-elim (λ h. inl (leb-true a b h)) (λ h. inr (leb-false a b h)) (bool-cases (leb a b))
+
+pub eq-or-ne : (a b : ℕ) → (a ≡ b) ⊎ (a ≡ b → ⊥)
+eq-or-ne a b = ⊎-elim (λ h. inl (eqb-true a b h)) (λ h. inr (eqb-false a b h)) (bool-cases (eqb a b))
+
+-- two tests that hold together are one
+pub ltb-same : (a b c d : ℕ) → (a < b → c < d) → (c < d → a < b) → ltb a b ≡ ltb c d
+ltb-same a b c d to from =
+    ⊎-elim
+    (λ (h : b ≤ a). le-ltb a b h ∙ sym (le-ltb c d (⊎-elim (λ k. k) (λ k. absurd (not-le-of-lt (from k) h)) (le-or-lt d c))))
+    (λ (h : a < b). lt-ltb a b h ∙ sym (lt-ltb c d (to h)))
+    (le-or-lt b a)

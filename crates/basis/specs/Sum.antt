@@ -1,0 +1,62 @@
+-- The sum of a function over the numbers below n, and its laws.
+use mathlib.Core.Path.{_≡_, refl, sym, ap}
+use mathlib.Core.Logic.{⊎-elim}
+use Prim.Native.Nat.{ℕ, zero, suc, _+_, _*_, _≤_, _<_}
+use native.Mathlib.Omega.{arith}
+use native.Mathlib.Nat.{zero-mul, add-mul}
+use Rattle.basis.specs.Choose.{eq-or-ne}
+
+-- f 0 + f 1 + .. + f (n - 1)
+unfoldable pub sum : (ℕ → ℕ) → ℕ → ℕ
+sum f zero = 0
+sum f (suc n) = sum f n + f n
+
+pub sum-ext : (f g : ℕ → ℕ) (n : ℕ) → ((i : ℕ) → i < n → f i ≡ g i) → sum f n ≡ sum g n
+unfolding sum
+sum-ext f g zero h = refl
+sum-ext f g (suc n) h = omega (arith, sum-ext f g n (λ i l. h i (omega arith)), h n (omega arith))
+
+pub sum-le : (f g : ℕ → ℕ) (n : ℕ) → ((i : ℕ) → i < n → f i ≤ g i) → sum f n ≤ sum g n
+unfolding sum
+sum-le f g zero h = omega arith
+sum-le f g (suc n) h = omega (arith, sum-le f g n (λ i l. h i (omega arith)), h n (omega arith))
+
+pub sum-add : (f g : ℕ → ℕ) (n : ℕ) → sum (λ i. f i + g i) n ≡ sum f n + sum g n
+unfolding sum
+sum-add f g zero = omega arith
+sum-add f g (suc n) = omega (arith, sum-add f g n)
+
+pub sum-mul : (f : ℕ → ℕ) (m n : ℕ) → sum (λ i. f i * m) n ≡ sum f n * m
+unfolding sum
+sum-mul f m zero = omega (arith, zero-mul m)
+sum-mul f m (suc n) = omega (arith, sum-mul f m n, add-mul (sum f n) (f n) m)
+
+pub sum-same : (c n : ℕ) → sum (λ _. c) n ≡ n * c
+unfolding sum
+sum-same c zero = omega (arith, zero-mul c)
+sum-same c (suc n) = omega (arith, sum-same c n)
+
+pub sum-zero : (f : ℕ → ℕ) (n : ℕ) → ((i : ℕ) → i < n → f i ≡ 0) → sum f n ≡ 0
+unfolding sum
+sum-zero f zero h = refl
+sum-zero f (suc n) h = omega (arith, sum-zero f n (λ i l. h i (omega arith)), h n (omega arith))
+
+-- no part is more than the sum
+pub part-le-sum : (f : ℕ → ℕ) (n i : ℕ) → i < n → f i ≤ sum f n
+unfolding sum
+part-le-sum f zero i l = omega arith
+part-le-sum f (suc n) i l =
+    ⊎-elim
+    (λ (e : i ≡ n). omega (arith, ap f e))
+    (λ (ne : i ≡ n → ⊥). omega (arith, part-le-sum f n i (omega arith)))
+    (eq-or-ne i n)
+
+-- f is g with x more at i: its sum is x more
+pub sum-more-at : (f g : ℕ → ℕ) (n i x : ℕ) → i < n → g i + x ≡ f i → ((j : ℕ) → j < n → (j ≡ i → ⊥) → g j ≡ f j) → sum g n + x ≡ sum f n
+unfolding sum
+sum-more-at f g zero i x l here there = absurd (omega arith)
+sum-more-at f g (suc n) i x l here there =
+    ⊎-elim
+    (λ (e : i ≡ n). omega (arith, ap f e, ap g e, sum-ext g f n (λ j lj. there j (omega arith) (λ z. omega arith))))
+    (λ (ne : i ≡ n → ⊥). omega (arith, sum-more-at f g n i x (omega arith) here (λ j lj. there j (omega arith)), there n (omega arith) (λ z. ne (sym z))))
+    (eq-or-ne i n)

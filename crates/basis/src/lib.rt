@@ -1,0 +1,1 @@
+// Mathematics that every crate shares: choices by a test, sums, division of slices. No code.

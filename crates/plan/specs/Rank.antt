@@ -1,0 +1,179 @@
+-- The scan's law: which entry `first` gives, that no other entry is so, and rank as one number.
+use mathlib.Core.Path.{_≡_, refl, sym, ap, _∙_}
+use mathlib.Core.Bool.{true, false, true≢false}
+use mathlib.Core.Logic.{_⊎_, inl, inr, ⊎-elim}
+use Prim.Native.Nat.{ℕ, zero, suc, _+_, _*_, _≤_, _<_}
+use native.Mathlib.Omega.{arith}
+use native.Mathlib.Nat.{mul-le-mul-right, suc-inj}
+use lib.Dec.{ltb}
+use borrow.Author.Tests.{lt-ltb, le-ltb, ltb-false, eq-eqb, ne-eqb}
+use Rattle.basis.specs.Choose.{choose, le-or-lt, eq-or-ne, ltb-same}
+use Rattle.plan.specs.Plan.{ranksBefore, NoneWants, FirstTask, IsFirst, firstOf, first}
+
+-- ---- rank as one number: the key, then the place
+unfoldable pub rank : ℕ → (ℕ → ℕ) → ℕ → ℕ
+rank n key i = key i * n + i
+
+module _ (key : ℕ → ℕ) where
+  smaller-key-first : (i j : ℕ) → key i < key j → ranksBefore key i j ≡ true
+  unfolding ranksBefore
+  smaller-key-first i j l = rw (lt-ltb (key i) (key j) l)
+
+  larger-key-later : (i j : ℕ) → key j < key i → ranksBefore key i j ≡ false
+  unfolding ranksBefore
+  larger-key-later i j l = rw (le-ltb (key i) (key j) (omega arith), ne-eqb (key i) (key j) (λ e. omega arith))
+
+  equal-keys-by-place : (i j : ℕ) → key i ≡ key j → ranksBefore key i j ≡ ltb i j
+  unfolding ranksBefore
+  equal-keys-by-place i j e = rw (le-ltb (key i) (key j) (omega arith), eq-eqb (key i) (key j) e)
+
+  later-place-later : (i j : ℕ) → key j ≤ key i → j ≤ i → ranksBefore key i j ≡ false
+  later-place-later i j l lj =
+      ⊎-elim
+      (λ (e : key i ≡ key j). equal-keys-by-place i j e ∙ le-ltb i j lj)
+      (λ (ne : key i ≡ key j → ⊥). larger-key-later i j (omega arith))
+      (eq-or-ne (key i) (key j))
+
+  pub not-before-key : (i j : ℕ) → ranksBefore key i j ≡ false → key j ≤ key i
+  not-before-key i j h =
+      ⊎-elim (λ (l : key j ≤ key i). l) (λ (l : key i < key j). let z : true ≡ false = sym (smaller-key-first i j l) ∙ h in absurd (true≢false z)) (le-or-lt (key j) (key i))
+
+  not-before-place : (i j : ℕ) → ranksBefore key i j ≡ false → key i ≡ key j → j ≤ i
+  not-before-place i j h e = ltb-false i j (sym (equal-keys-by-place i j e) ∙ h)
+
+  pub rank-tells : (n i j : ℕ) → i < n → j < n → ranksBefore key i j ≡ ltb (rank n key i) (rank n key j)
+  unfolding rank
+  rank-tells n i j li lj =
+      ⊎-elim
+      (λ (le : key i ≤ key j).
+      ⊎-elim
+      (λ (e : key i ≡ key j).
+      equal-keys-by-place i j e ∙ ltb-same i j (key i * n + i) (key j * n + j) (λ l. omega (arith, ap (λ (k : ℕ). k * n) e)) (λ l. omega (arith, ap (λ (k : ℕ). k * n) e)))
+      (λ (ne : key i ≡ key j → ⊥).
+      let l : key i < key j = omega arith in
+      smaller-key-first i j l ∙ sym (lt-ltb (key i * n + i) (key j * n + j) (omega (arith, below l))))
+      (eq-or-ne (key i) (key j)))
+      (λ (gt : key j < key i). larger-key-later i j gt ∙ sym (le-ltb (key i * n + i) (key j * n + j) (omega (arith, below gt))))
+      (le-or-lt (key i) (key j))
+    where
+      below : {a b : ℕ} → a < b → a * n + n ≤ b * n
+      below {a} {b} l = omega (arith, mul-le-mul-right n l)
+
+-- ---- the scan's law
+pub below-suc : (j n : ℕ) → j < suc n → (j < n) ⊎ (j ≡ n)
+below-suc j n l = ⊎-elim (λ (e : j ≡ n). inr e) (λ (ne : j ≡ n → ⊥). inl (omega arith)) (eq-or-ne j n)
+
+module _ (key wants : ℕ → ℕ) (n : ℕ) where
+  unwanted : {A : Type 0} (j i : ℕ) → j ≡ i → wants i ≡ 0 → 0 < wants j → A
+  unwanted j i e z p = absurd (omega (arith, ap wants e))
+
+  kept : (e : ℕ) → wants n ≡ 0 → IsFirst key wants n e → IsFirst key wants (suc n) e
+  unfolding IsFirst
+  kept e w (inl h) =
+      inl (record { idle = h .idle; none = λ j l. ⊎-elim (λ b. h .none j b) (λ b. ap wants b ∙ w) (below-suc j n l) })
+  kept e w (inr h) =
+      inr (record {
+        task = h .task;
+        is = h .is;
+        below = omega arith;
+        wanting = h .wanting;
+        none-before = λ j l p. ⊎-elim (λ b. h .none-before j b p) (λ b. unwanted j n b w p) (below-suc j n l);
+      })
+
+  alone : 0 < wants n → NoneWants wants n 0 → FirstTask key wants (suc n) (suc n)
+  alone w h = record {
+    task = n;
+    is = refl;
+    below = omega arith;
+    wanting = w;
+    none-before = λ j l p.
+        ⊎-elim
+        (λ b. unwanted j j refl (h .none j b) p)
+        (λ b. later-place-later key j n (omega (arith, ap key b)) (omega arith))
+        (below-suc j n l);
+  }
+
+  ahead : (i : ℕ) → 0 < wants n → FirstTask key wants n (suc i) → key n < key i → FirstTask key wants (suc n) (suc n)
+  ahead i w h l = record {
+    task = n;
+    is = refl;
+    below = omega arith;
+    wanting = w;
+    none-before = λ j lj p.
+        ⊎-elim
+        (λ b. larger-key-later key j n (omega (arith, not-before-key key j (h .task) (h .none-before j b p), ap key (suc-inj (h .is)))))
+        (λ b. later-place-later key j n (omega (arith, ap key b)) (omega arith))
+        (below-suc j n lj);
+  }
+
+  behind : (i : ℕ) → FirstTask key wants n (suc i) → key i ≤ key n → FirstTask key wants (suc n) (suc i)
+  behind i h l = record {
+    task = h .task;
+    is = h .is;
+    below = omega arith;
+    wanting = h .wanting;
+    none-before = λ j lj p.
+        ⊎-elim
+        (λ b. h .none-before j b p)
+        (λ b. later-place-later key j (h .task) (omega (arith, ap key b, ap key (suc-inj (h .is)))) (omega arith))
+        (below-suc j n lj);
+  }
+
+  one-more : (w e : ℕ) → wants n ≡ w → IsFirst key wants n e → IsFirst key wants (suc n) (firstOf key w n e)
+  unfolding IsFirst firstOf choose
+  one-more zero e q h = kept e q h
+  one-more (suc w) zero q (inl h) = inr (alone (omega arith) h)
+  one-more (suc w) zero q (inr h) = absurd (omega arith)
+  one-more (suc w) (suc i) q (inl h) = absurd (omega arith)
+  one-more (suc w) (suc i) q (inr h) =
+      ⊎-elim
+      (λ (l : key i ≤ key n). rw (le-ltb (key n) (key i) l) (inr (behind i h l)))
+      (λ (l : key n < key i). rw (lt-ltb (key n) (key i) l) (inr (ahead i (omega arith) h l)))
+      (le-or-lt (key i) (key n))
+
+module _ (key wants : ℕ → ℕ) where
+  -- `first` is the first-ranking task that wants a slice.
+  pub first-law : (n : ℕ) → IsFirst key wants n (first key wants n)
+  unfolding IsFirst first
+  first-law zero = inl (record { idle = refl; none = λ j l. absurd (omega arith) })
+  first-law (suc n) = one-more key wants n (wants n) (first key wants n) refl (first-law n)
+
+  -- No other entry is.
+  pub first-only : (n e f : ℕ) → IsFirst key wants n e → IsFirst key wants n f → e ≡ f
+  unfolding IsFirst
+  first-only n e f (inl h) (inl k) = omega arith
+  first-only n e f (inl h) (inr k) = absurd (omega (arith, h .none (k .task) (k .below)))
+  first-only n e f (inr h) (inl k) = absurd (omega (arith, k .none (h .task) (h .below)))
+  first-only n e f (inr h) (inr k) =
+      let a : key (k .task) ≤ key (h .task) = not-before-key key (h .task) (k .task) (k .none-before (h .task) (h .below) (h .wanting)) in
+      let b : key (h .task) ≤ key (k .task) = not-before-key key (k .task) (h .task) (h .none-before (k .task) (k .below) (k .wanting)) in
+      omega (arith, not-before-place key (h .task) (k .task) (k .none-before (h .task) (h .below) (h .wanting)) (omega arith), not-before-place key (k .task) (h .task) (h .none-before (k .task) (k .below) (k .wanting)) (omega arith))
+
+  pub first-is : (n e : ℕ) → IsFirst key wants n e → e ≡ first key wants n
+  first-is n e h = first-only n e (first key wants n) h (first-law n)
+
+-- It goes by the keys and by who wants a slice, not by how many.
+module _ (key key′ wants wants′ : ℕ → ℕ) (n : ℕ)
+    (keys : (i : ℕ) → i < n → key i ≡ key′ i)
+    (none : (i : ℕ) → i < n → wants i ≡ 0 → wants′ i ≡ 0)
+    (some : (i : ℕ) → i < n → wants′ i ≡ 0 → wants i ≡ 0) where
+  same-order : (i j : ℕ) → i < n → j < n → ranksBefore key i j ≡ ranksBefore key′ i j
+  unfolding ranksBefore
+  same-order i j li lj = rw (keys i li, keys j lj)
+
+  pub same-law : (e : ℕ) → IsFirst key wants n e → IsFirst key′ wants′ n e
+  unfolding IsFirst
+  same-law e (inl h) = inl (record { idle = h .idle; none = λ j l. none j l (h .none j l) })
+  same-law e (inr h) = inr (record {
+    task = h .task;
+    is = h .is;
+    below = h .below;
+    wanting = wanting-too (h .task) (h .below) some (h .wanting);
+    none-before = λ j l p. sym (same-order j (h .task) l (h .below)) ∙ h .none-before j l (wanting-too j l none p);
+  })
+    where
+      wanting-too : {f g : ℕ → ℕ} (i : ℕ) → i < n → ((i : ℕ) → i < n → g i ≡ 0 → f i ≡ 0) → 0 < f i → 0 < g i
+      wanting-too {f} {g} i l k p = ⊎-elim (λ (z : g i ≡ 0). absurd (omega (arith, k i l z))) (λ (nz : g i ≡ 0 → ⊥). omega arith) (eq-or-ne (g i) 0)
+
+  pub first-same : first key wants n ≡ first key′ wants′ n
+  first-same = first-is key′ wants′ n (first key wants n) (same-law (first key wants n) (first-law key wants n))
