@@ -1,0 +1,2 @@
+-- The task list and its plan.
+pub mod List
