@@ -2,7 +2,8 @@
 use mathlib.Core.Path.{_≡_, refl, sym, _∙_}
 use mathlib.Core.Bool.{Bool, true, false}
 use mathlib.Core.Logic.{_⊎_, inl, inr, ⊎-elim}
-use Prim.Native.Nat.{ℕ, _≤_, _<_}
+use Prim.Native.Nat.{ℕ, suc, _≤_, _<_}
+use native.Mathlib.Omega.{arith}
 use native.Mathlib.Nat.{not-le-of-lt}
 use lib.Dec.{leb, ltb, eqb}
 use borrow.Author.Tests.{lt-ltb, le-ltb, le-leb, lt-leb, eq-eqb, ne-eqb, leb-true, leb-false, eqb-true, eqb-false}
@@ -40,6 +41,9 @@ le-or-lt a b = ⊎-elim (λ h. inl (leb-true a b h)) (λ h. inr (leb-false a b h
 
 pub eq-or-ne : (a b : ℕ) → (a ≡ b) ⊎ (a ≡ b → ⊥)
 eq-or-ne a b = ⊎-elim (λ h. inl (eqb-true a b h)) (λ h. inr (eqb-false a b h)) (bool-cases (eqb a b))
+
+pub below-suc : (j n : ℕ) → j < suc n → (j < n) ⊎ (j ≡ n)
+below-suc j n l = ⊎-elim (λ (e : j ≡ n). inr e) (λ (ne : j ≡ n → ⊥). inl (omega arith)) (eq-or-ne j n)
 
 -- two tests that hold together are one
 pub ltb-same : (a b c d : ℕ) → (a < b → c < d) → (c < d → a < b) → ltb a b ≡ ltb c d

@@ -41,6 +41,15 @@ unfolding sum
 sum-zero f zero h = refl
 sum-zero f (suc n) h = omega (arith, sum-zero f n (λ i l. h i (omega arith)), h n (omega arith))
 
+pub sum-grows : (f : ℕ → ℕ) (i n : ℕ) → i ≤ n → sum f i ≤ sum f n
+unfolding sum
+sum-grows f i zero l = let z : i ≡ 0 = omega arith in omega (arith, ap (sum f) z)
+sum-grows f i (suc n) l =
+    ⊎-elim
+    (λ (e : i ≡ suc n). omega (arith, ap (sum f) e))
+    (λ (ne : i ≡ suc n → ⊥). omega (arith, sum-grows f i n (omega arith)))
+    (eq-or-ne i (suc n))
+
 -- no part is more than the sum
 pub part-le-sum : (f : ℕ → ℕ) (n i : ℕ) → i < n → f i ≤ sum f n
 unfolding sum

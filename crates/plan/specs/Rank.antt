@@ -7,7 +7,7 @@ use native.Mathlib.Omega.{arith}
 use native.Mathlib.Nat.{mul-le-mul-right, suc-inj}
 use lib.Dec.{ltb}
 use borrow.Author.Tests.{lt-ltb, le-ltb, ltb-false, eq-eqb, ne-eqb}
-use Rattle.basis.specs.Choose.{choose, le-or-lt, eq-or-ne, ltb-same}
+use Rattle.basis.specs.Choose.{choose, le-or-lt, eq-or-ne, ltb-same, below-suc}
 use Rattle.plan.specs.Plan.{ranksBefore, NoneWants, FirstTask, IsFirst, firstOf, first}
 
 -- ---- rank as one number: the key, then the place
@@ -60,9 +60,6 @@ module _ (key : ℕ → ℕ) where
       below {a} {b} l = omega (arith, mul-le-mul-right n l)
 
 -- ---- the scan's law
-pub below-suc : (j n : ℕ) → j < suc n → (j < n) ⊎ (j ≡ n)
-below-suc j n l = ⊎-elim (λ (e : j ≡ n). inr e) (λ (ne : j ≡ n → ⊥). inl (omega arith)) (eq-or-ne j n)
-
 module _ (key wants : ℕ → ℕ) (n : ℕ) where
   unwanted : {A : Type 0} (j i : ℕ) → j ≡ i → wants i ≡ 0 → 0 < wants j → A
   unwanted j i e z p = absurd (omega (arith, ap wants e))

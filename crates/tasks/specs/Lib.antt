@@ -1,2 +1,6 @@
--- The task list and its plan.
+-- The task list, its plan, its cycle and what bounds it.
 pub mod List
+pub mod Euclid
+pub mod Bounds
+pub mod Kept
+pub mod Shapes

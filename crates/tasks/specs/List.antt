@@ -1,5 +1,6 @@
 -- A task list read as a plan: rate-monotonic, every deadline at the end of the period, one run-time a task.
 use Prim.Native.Nat.{ℕ}
+use mathlib.Core.List.{List}
 use lib.ListN.{getD}
 use Rattle.plan.specs.Plan.{Plan}
 use Rattle.tasks.specs.declared.Task.{Task}
@@ -10,16 +11,16 @@ unfoldable pub noTask : Task
 noTask = record { period = 0; runtime = 0; memory = 0 }
 
 -- the task at a place, counted from 0: task number i + 1
-unfoldable pub taskAt : TaskList → ℕ → Task
-taskAt l i = getD (l .tasks) i noTask
+unfoldable pub taskAt : List Task → ℕ → Task
+taskAt ts i = getD ts i noTask
 
 -- Shorter period goes first; of equal periods, the earlier in the list.
 unfoldable pub planOf : TaskList → Plan
 planOf l =
     record {
       count = l .count;
-      period = λ i. taskAt l i .period;
-      due = λ i. taskAt l i .period;
-      runtime = λ i k. taskAt l i .runtime;
-      key = λ i k. taskAt l i .period;
+      period = λ i. taskAt (l .tasks) i .period;
+      due = λ i. taskAt (l .tasks) i .period;
+      runtime = λ i k. taskAt (l .tasks) i .runtime;
+      key = λ i k. taskAt (l .tasks) i .period;
     }

@@ -1,0 +1,235 @@
+-- What a list that keeps all bounds is like, said without numbers of refusal; and that its cycle is the least common multiple of its periods.
+use mathlib.Core.Path.{_≡_, refl, sym, ap, subst, _∙_}
+use mathlib.Core.List.{List}
+use mathlib.Core.Bool.{Bool, true, false, true≢false}
+use mathlib.Core.Logic.{⊎-elim, _↔_}
+use Prim.Native.Nat.{ℕ, zero, suc, _≤_, _<_, _∣_}
+use native.Mathlib.Omega.{arith}
+use native.Mathlib.Nat.{one-dvd, dvd-trans, le-of-dvd, pos-of-ne-zero}
+use lib.Dec.{ltb, eqb}
+use borrow.Author.Tests.{lt-ltb, le-ltb, ltb-false, eq-eqb, ne-eqb, eqb-false}
+use Rattle.basis.specs.Choose.{choose, choose-yes, choose-no, le-or-lt, eq-or-ne, below-suc}
+use Rattle.basis.specs.Sum.{sum-grows}
+use Rattle.tasks.specs.declared.Task.{Task}
+use Rattle.tasks.specs.declared.TaskList.{TaskList}
+use Rattle.tasks.specs.declared.Finding.{Finding}
+use Rattle.tasks.specs.List.{taskAt}
+use Rattle.tasks.specs.Euclid.{LeastCommonMultiple, lcm-is-least, lcm-pos}
+use Rattle.tasks.specs.Bounds.{multiple, memorySum, cycleOf, refusal, none, _orElse_, firstFound, outside, ofCount, ofNumbers, ofTask, ofMemory, ofCycle, found}
+
+-- ---- the first that is found
+module _ (f g : Finding) where
+  pub else-found : (f .number ≡ 0) → (f orElse g) ≡ g
+  unfolding _orElse_
+  else-found z = choose-yes (eqb (f .number) 0) g f (eq-eqb (f .number) 0 z)
+
+  pub else-kept : (f .number ≡ 0 → ⊥) → (f orElse g) ≡ f
+  unfolding _orElse_
+  else-kept nz = choose-no (eqb (f .number) 0) g f (ne-eqb (f .number) 0 nz)
+
+  pub else-none : (f orElse g) .number ≡ 0 → (f .number ≡ 0) × (g .number ≡ 0)
+  else-none z =
+      ⊎-elim
+      (λ (h : f .number ≡ 0). (h, sym (ap (λ (x : Finding). x .number) (else-found h)) ∙ z))
+      (λ (h : f .number ≡ 0 → ⊥). absurd (h (sym (ap (λ (x : Finding). x .number) (else-kept h)) ∙ z)))
+      (eq-or-ne (f .number) 0)
+
+  pub none-else : f .number ≡ 0 → g .number ≡ 0 → (f orElse g) .number ≡ 0
+  none-else h k = ap (λ (x : Finding). x .number) (else-found h) ∙ k
+
+module _ (find : ℕ → Finding) where
+  pub found-none : (n : ℕ) → firstFound find n .number ≡ 0 → (i : ℕ) → i < n → find i .number ≡ 0
+  unfolding firstFound
+  found-none zero z i l = absurd (omega arith)
+  found-none (suc n) z i l =
+      let h = else-none (firstFound find n) (find n) z in
+      ⊎-elim (λ (b : i < n). found-none n (h .0) i b) (λ (e : i ≡ n). ap (λ (x : ℕ). find x .number) e ∙ h .1) (below-suc i n l)
+
+  pub none-found : (n : ℕ) → ((i : ℕ) → i < n → find i .number ≡ 0) → firstFound find n .number ≡ 0
+  unfolding firstFound none refusal
+  none-found zero h = refl
+  none-found (suc n) h = none-else (firstFound find n) (find n) (none-found n (λ i l. h i (omega arith))) (h n (omega arith))
+
+-- ---- refusals 1 to 4
+pub inside : (low high x : ℕ) → outside low high x ≡ false → (low ≤ x) × (x ≤ high)
+unfolding outside
+inside low high x h =
+    ⊎-elim
+    (λ (a : low ≤ x).
+    ⊎-elim
+    (λ (b : x ≤ high). (a, b))
+    (λ (b : high < x). absurd (true≢false (sym (rw (le-ltb x low a, lt-ltb high x b)) ∙ h)))
+    (le-or-lt x high))
+    (λ (a : x < low). absurd (true≢false (sym (rw (lt-ltb x low a)) ∙ h)))
+    (le-or-lt low x)
+
+pub not-outside : (low high x : ℕ) → low ≤ x → x ≤ high → outside low high x ≡ false
+unfolding outside
+not-outside low high x a b = rw (le-ltb x low a, le-ltb high x b)
+
+-- Period 1 to 4,096. Run-time 1 to the period.
+pub record TaskFits (t : Task) : Type 0 where
+  pub period-from : 1 ≤ t .period
+  pub period-to : t .period ≤ 4096
+  pub runtime-from : 1 ≤ t .runtime
+  pub runtime-to : t .runtime ≤ t .period
+
+pub record AllFit (l : TaskList) : Type 0 where
+  pub few : l .count ≤ 16
+  pub fits : (i : ℕ) → i < l .count → TaskFits (taskAt (l .tasks) i)
+
+-- 1 to 16 tasks, each of which fits. The memory of all together is at most the supply, and the cycle at most 4,096.
+pub record KeepsBounds (l : TaskList) (supply : ℕ) : Type 0 where
+  pub some : 1 ≤ l .count
+  pub few : l .count ≤ 16
+  pub fits : (i : ℕ) → i < l .count → TaskFits (taskAt (l .tasks) i)
+  pub memory-within : memorySum (l .tasks) (l .count) ≤ supply
+  pub cycle-within : cycleOf l ≤ 4096
+
+-- Where a test refuses or goes on, and nothing is found, the test failed; and so back.
+passed : (b : Bool) (n t : ℕ) (f : Finding) → choose b (refusal (suc n) t) f .number ≡ 0 → (b ≡ false) × (f .number ≡ 0)
+unfolding refusal choose
+passed true n t f z = absurd (omega arith)
+passed false n t f z = (refl, z)
+
+goes-on : (b : Bool) (n t : ℕ) (f : Finding) → b ≡ false → f .number ≡ 0 → choose b (refusal (suc n) t) f .number ≡ 0
+goes-on b n t f e z = ap (λ (x : Finding). x .number) (choose-no b (refusal (suc n) t) f e) ∙ z
+
+none-is-none : none .number ≡ 0
+unfolding none refusal
+none-is-none = refl
+
+of-count-none : (n : ℕ) → (ofCount n .number ≡ 0) ↔ ((1 ≤ n) × (n ≤ 16))
+unfolding ofCount
+of-count-none n = (
+  λ z.
+      let a = passed (eqb n 0) 0 0 (choose (ltb 16 n) (refusal 2 0) none) z in
+      let b = passed (ltb 16 n) 1 0 none (a .1) in
+      (pos-of-ne-zero (eqb-false n 0 (a .0)), ltb-false 16 n (b .0)),
+  λ h. goes-on (eqb n 0) 0 0 (choose (ltb 16 n) (refusal 2 0) none) (ne-eqb n 0 (λ e. omega arith)) (goes-on (ltb 16 n) 1 0 none (le-ltb 16 n (h .1)) none-is-none),
+)
+
+of-task-none : (ts : List Task) (i : ℕ) → (ofTask ts i .number ≡ 0) ↔ TaskFits (taskAt ts i)
+unfolding ofTask ofNumbers
+of-task-none ts i = (
+  λ z.
+      let a = passed (outside 1 4096 p) 2 (suc i) (choose (outside 1 p r) (refusal 4 (suc i)) none) z in
+      let b = passed (outside 1 p r) 3 (suc i) none (a .1) in
+      record {
+        period-from = inside 1 4096 p (a .0) .0;
+        period-to = inside 1 4096 p (a .0) .1;
+        runtime-from = inside 1 p r (b .0) .0;
+        runtime-to = inside 1 p r (b .0) .1;
+      },
+  λ f.
+      goes-on (outside 1 4096 p) 2 (suc i) (choose (outside 1 p r) (refusal 4 (suc i)) none) (not-outside 1 4096 p (f .period-from) (f .period-to))
+      (goes-on (outside 1 p r) 3 (suc i) none (not-outside 1 p r (f .runtime-from) (f .runtime-to)) none-is-none),
+)
+  where
+    p : ℕ
+    p = taskAt ts i .period
+
+    r : ℕ
+    r = taskAt ts i .runtime
+
+-- Refusals 5 and 6 come from one test each.
+pub one-test-none : (a b n t : ℕ) → (choose (ltb a b) (refusal (suc n) t) none .number ≡ 0) ↔ (b ≤ a)
+one-test-none a b n t = (λ z. ltb-false a b (passed (ltb a b) n t none z .0), λ h. goes-on (ltb a b) n t none (le-ltb a b h) none-is-none)
+
+-- ---- the running multiple
+module _ (ts : List Task) where
+  -- Every period of the first n tasks is at least 1.
+  abbrev pub PeriodsPos : ℕ → Type 0
+  PeriodsPos n = (i : ℕ) → i < n → 1 ≤ taskAt ts i .period
+
+  fewer : (n : ℕ) → PeriodsPos (suc n) → PeriodsPos n
+  fewer n h i l = h i (omega arith)
+
+  pub multiple-pos : (n : ℕ) → PeriodsPos n → 0 < multiple ts n
+  unfolding multiple
+  multiple-pos zero h = omega arith
+  multiple-pos (suc n) h = lcm-pos (multiple ts n) (taskAt ts n .period) (multiple-pos n (fewer n h)) (h n (omega arith))
+
+  least : (n : ℕ) → PeriodsPos (suc n) → LeastCommonMultiple (multiple ts n) (taskAt ts n .period) (multiple ts (suc n))
+  unfolding multiple
+  least n h = lcm-is-least (multiple ts n) (taskAt ts n .period) (multiple-pos n (fewer n h))
+
+  -- Every period divides the multiple of the first n,
+  pub period-divides : (n : ℕ) → PeriodsPos n → (i : ℕ) → i < n → taskAt ts i .period ∣ multiple ts n
+  period-divides zero h i l = absurd (omega arith)
+  period-divides (suc n) h i l =
+      ⊎-elim
+      (λ (b : i < n). dvd-trans (taskAt ts i .period) (period-divides n (fewer n h) i b) (least n h .first))
+      (λ (e : i ≡ n). subst (λ (x : ℕ). taskAt ts x .period ∣ multiple ts (suc n)) (sym e) (least n h .second))
+      (below-suc i n l)
+
+  -- and it divides whatever every period divides.
+  pub multiple-least : (n : ℕ) → PeriodsPos n → (x : ℕ) → ((i : ℕ) → i < n → taskAt ts i .period ∣ x) → multiple ts n ∣ x
+  unfolding multiple
+  multiple-least zero h x d = one-dvd x
+  multiple-least (suc n) h x d = least n h .least x (multiple-least n (fewer n h) x (λ i l. d i (omega arith))) (d n (omega arith))
+
+  multiple-grows : (i n : ℕ) → PeriodsPos n → i ≤ n → multiple ts i ≤ multiple ts n
+  multiple-grows i n h l =
+      le-of-dvd (multiple-pos n h) (multiple-least i (λ j lj. h j (omega arith)) (multiple ts n) (λ j lj. period-divides n h j (omega arith)))
+
+-- ---- nothing is found exactly in a list that keeps all bounds
+-- A running sum or multiple that only grows is nowhere above a bound exactly if its last value is not.
+running-none : (q : ℕ → ℕ) (a m n : ℕ) → 1 ≤ n → ((i : ℕ) → i ≤ n → q i ≤ q n)
+    → (firstFound (λ i. choose (ltb a (q (suc i))) (refusal (suc m) (suc i)) none) n .number ≡ 0) ↔ (q n ≤ a)
+running-none q a m zero p grows = absurd (omega arith)
+running-none q a m (suc n) p grows = (
+  λ z. one-test-none a (q (suc n)) m (suc n) .0 (found-none (λ i. choose (ltb a (q (suc i))) (refusal (suc m) (suc i)) none) (suc n) z n (omega arith)),
+  λ h. none-found (λ i. choose (ltb a (q (suc i))) (refusal (suc m) (suc i)) none) (suc n) (λ i li. one-test-none a (q (suc i)) m (suc i) .1 (omega (arith, grows (suc i) li))),
+)
+
+module _ (l : TaskList) (supply : ℕ) where
+  pub tasks-none : (firstFound (ofTask (l .tasks)) (l .count) .number ≡ 0) ↔ ((i : ℕ) → i < l .count → TaskFits (taskAt (l .tasks) i))
+  tasks-none = (
+    λ z i li. of-task-none (l .tasks) i .0 (found-none (ofTask (l .tasks)) (l .count) z i li),
+    λ f. none-found (ofTask (l .tasks)) (l .count) (λ i li. of-task-none (l .tasks) i .1 (f i li)),
+  )
+
+  memory-none : 1 ≤ l .count → (firstFound (ofMemory (l .tasks) supply) (l .count) .number ≡ 0) ↔ (memorySum (l .tasks) (l .count) ≤ supply)
+  unfolding ofMemory memorySum
+  memory-none p = running-none (memorySum (l .tasks)) supply 4 (l .count) p (λ i li. sum-grows (λ j. taskAt (l .tasks) j .memory) i (l .count) li)
+
+  cycle-none : 1 ≤ l .count → PeriodsPos (l .tasks) (l .count) → (firstFound (ofCycle (l .tasks)) (l .count) .number ≡ 0) ↔ (cycleOf l ≤ 4096)
+  unfolding ofCycle cycleOf
+  cycle-none p h = running-none (multiple (l .tasks)) 4096 5 (l .count) p (λ i li. multiple-grows (l .tasks) i (l .count) h li)
+
+  pub nothing-found : (found l supply .number ≡ 0) ↔ KeepsBounds l supply
+  unfolding found
+  nothing-found = (
+    λ z.
+        let a = else-none _ _ z in
+        let b = else-none _ _ (a .1) in
+        let c = else-none _ _ (b .1) in
+        let k = of-count-none (l .count) .0 (a .0) in
+        let f = tasks-none .0 (b .0) in
+        record {
+          some = k .0;
+          few = k .1;
+          fits = f;
+          memory-within = memory-none (k .0) .0 (c .0);
+          cycle-within = cycle-none (k .0) (λ i li. f i li .period-from) .0 (c .1);
+        },
+    λ k.
+        none-else _ _ (of-count-none (l .count) .1 (k .some, k .few))
+        (none-else _ _ (tasks-none .1 (k .fits))
+        (none-else _ _ (memory-none (k .some) .1 (k .memory-within)) (cycle-none (k .some) (λ i li. k .fits i li .period-from) .1 (k .cycle-within)))),
+  )
+
+-- Of such a list the cycle is the least common multiple of the periods.
+module _ (l : TaskList) (supply : ℕ) (K : KeepsBounds l supply) where
+  pub cycle-pos : 0 < cycleOf l
+  unfolding cycleOf
+  cycle-pos = multiple-pos (l .tasks) (l .count) (λ i li. K .fits i li .period-from)
+
+  pub period-divides-cycle : (i : ℕ) → i < l .count → taskAt (l .tasks) i .period ∣ cycleOf l
+  unfolding cycleOf
+  period-divides-cycle = period-divides (l .tasks) (l .count) (λ i li. K .fits i li .period-from)
+
+  pub cycle-least : (x : ℕ) → ((i : ℕ) → i < l .count → taskAt (l .tasks) i .period ∣ x) → cycleOf l ∣ x
+  unfolding cycleOf
+  cycle-least = multiple-least (l .tasks) (l .count) (λ i li. K .fits i li .period-from)
