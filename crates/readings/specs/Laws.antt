@@ -1,0 +1,112 @@
+-- Reading the number of a case gives the case, and a number that was read is the number of its reading.
+use mathlib.Core.Path.{_≡_, refl, sym, ap, _∙_}
+use mathlib.Core.Bool.{Bool, true, false, and-false}
+use mathlib.Core.Logic.{_⊎_, inl, inr}
+use Prim.Native.Nat.{ℕ, _≤_, _<_}
+use native.Mathlib.Omega.{arith}
+use lib.Dec.{eqb}
+use borrow.Author.Tests.{le-leb, lt-leb, ne-eqb, eqb-true}
+use Rattle.basis.specs.Choose.{choose}
+use Rattle.readings.specs.declared.Entry.the-variants.{Idle, Task, NoEntry}
+use Rattle.readings.specs.declared.Refusal.the-variants.{Bound, Lateness, ShortTable, Run, Program, Conversion, NoRefusal}
+use Rattle.readings.specs.declared.Logged.the-variants.{NoResult, Done, Over, Late, Damaged}
+use Rattle.readings.specs.Reading.{between, entryOf, refusalOf, loggedOf, entryByte, refusalNumber, loggedByte}
+
+module _ (a b n : ℕ) where
+  inside : a ≤ n → n ≤ b → between a b n ≡ true
+  unfolding between
+  inside l u = rw (le-leb a n l, le-leb n b u)
+
+  above : b < n → between a b n ≡ false
+  unfolding between
+  above o = rw (lt-leb n b o, and-false)
+
+-- A choice has the number n, if each of its sides has it that can be taken.
+module _ {A : Type 0} (number : A → ℕ) (n : ℕ) where
+  of-choice : (b : Bool) (x y : A) → (b ≡ true → number x ≡ n) → number y ≡ n → number (choose b x y) ≡ n
+  unfolding choose
+  of-choice true x y h k = h refl
+  of-choice false x y h k = k
+
+-- ---- entries
+pub reads-idle : (count : ℕ) → entryOf 0 count ≡ Idle
+unfolding entryOf choose
+reads-idle count = refl
+
+pub reads-task : (i count : ℕ) → 1 ≤ i → i ≤ 16 → i ≤ count → entryOf i count ≡ Task i
+unfolding entryOf choose
+reads-task i count l u within = rw (ne-eqb i 0 (λ e. omega arith), inside 1 16 i l u, le-leb i count within)
+
+pub reads-no-entry : (byte count : ℕ) → 1 ≤ byte → (16 < byte) ⊎ (count < byte) → entryOf byte count ≡ NoEntry byte
+unfolding entryOf choose
+reads-no-entry byte count l (inl beyond) = rw (ne-eqb byte 0 (λ e. omega arith), above 1 16 byte beyond)
+reads-no-entry byte count l (inr beyond) = rw (ne-eqb byte 0 (λ e. omega arith), lt-leb byte count beyond, and-false)
+
+pub entry-byte : (byte count : ℕ) → entryByte (entryOf byte count) ≡ byte
+unfolding entryOf entryByte
+entry-byte byte count =
+    of-choice entryByte byte _ _ _ (λ h. sym (eqb-true byte 0 h)) (of-choice entryByte byte _ _ _ (λ h. refl) refl)
+
+-- ---- numbers of refusal
+pub reads-bound : (n : ℕ) → 1 ≤ n → n ≤ 6 → refusalOf n ≡ Bound n
+unfolding refusalOf choose
+reads-bound n l u = rw (inside 1 6 n l u)
+
+pub reads-refusals : (refusalOf 7 ≡ Lateness) × (refusalOf 8 ≡ ShortTable) × (refusalOf 17 ≡ Conversion)
+unfolding refusalOf choose between
+reads-refusals = (refl, refl, refl)
+
+-- past 8, what is left to tell apart
+past-eight :
+    (n : ℕ)
+    → 8 < n
+    → refusalOf n ≡ choose (between 9 14 n) (Run n) (choose (between 15 16 n) (Program n) (choose (eqb n 17) Conversion (NoRefusal n)))
+unfolding refusalOf choose
+past-eight n l = rw (above 1 6 n (omega arith), ne-eqb n 7 (λ e. omega arith), ne-eqb n 8 (λ e. omega arith))
+
+pub reads-run : (n : ℕ) → 9 ≤ n → n ≤ 14 → refusalOf n ≡ Run n
+unfolding choose
+reads-run n l u = rw (past-eight n l, inside 9 14 n l u)
+
+pub reads-program : (n : ℕ) → 15 ≤ n → n ≤ 16 → refusalOf n ≡ Program n
+unfolding choose
+reads-program n l u = rw (past-eight n (omega arith), above 9 14 n l, inside 15 16 n l u)
+
+pub reads-no-refusal : (n : ℕ) → (n ≡ 0) ⊎ (17 < n) → refusalOf n ≡ NoRefusal n
+unfolding refusalOf choose between
+reads-no-refusal n (inl e) = rw e
+reads-no-refusal n (inr beyond) =
+    rw (past-eight n (omega arith), above 9 14 n (omega arith), above 15 16 n (omega arith), ne-eqb n 17 (λ e. omega arith))
+
+pub refusal-number : (n : ℕ) → refusalNumber (refusalOf n) ≡ n
+unfolding refusalOf refusalNumber
+refusal-number n =
+    of-choice refusalNumber n _ _ _ (λ h. refl)
+    (of-choice refusalNumber n _ _ _ (λ h. sym (eqb-true n 7 h))
+    (of-choice refusalNumber n _ _ _ (λ h. sym (eqb-true n 8 h))
+    (of-choice refusalNumber n _ _ _ (λ h. refl)
+    (of-choice refusalNumber n _ _ _ (λ h. refl)
+    (of-choice refusalNumber n _ _ _ (λ h. sym (eqb-true n 17 h)) refl)))))
+
+-- ---- log bytes
+pub reads-results : (loggedOf 0 ≡ NoResult) × (loggedOf 1 ≡ Done) × (loggedOf 2 ≡ Over) × (loggedOf 3 ≡ Late)
+unfolding loggedOf choose
+reads-results = (refl, refl, refl, refl)
+
+pub reads-damaged : (byte : ℕ) → 4 ≤ byte → loggedOf byte ≡ Damaged byte
+unfolding loggedOf choose
+reads-damaged byte l =
+    rw (ne-eqb byte 0 (λ e. omega arith), ne-eqb byte 1 (λ e. omega arith), ne-eqb byte 2 (λ e. omega arith), ne-eqb byte 3 (λ e. omega arith))
+
+pub logged-byte : (byte : ℕ) → loggedByte (loggedOf byte) ≡ byte
+unfolding loggedOf loggedByte
+logged-byte byte =
+    of-choice loggedByte byte _ _ _ (λ h. sym (eqb-true byte 0 h))
+    (of-choice loggedByte byte _ _ _ (λ h. sym (eqb-true byte 1 h))
+    (of-choice loggedByte byte _ _ _ (λ h. sym (eqb-true byte 2 h))
+    (of-choice loggedByte byte _ _ _ (λ h. sym (eqb-true byte 3 h)) refl)))
+
+-- Zero means no result, never a pass: only 1 reads as done.
+pub done-is-one : (byte : ℕ) → loggedOf byte ≡ Done → byte ≡ 1
+unfolding loggedByte
+done-is-one byte e = sym (logged-byte byte) ∙ ap loggedByte e

@@ -1,0 +1,3 @@
+-- The conversions from microseconds to slices: definitions, and what follows from them.
+pub mod Conversion
+pub mod Laws
