@@ -1,4 +1,6 @@
--- Mathematics that every crate shares: choices by a test, sums, division of slices.
+-- Mathematics that every crate shares.
 pub mod Choose
 pub mod Sum
 pub mod Slices
+pub mod Least
+pub mod Bytes

@@ -13,9 +13,11 @@ use Rattle.basis.specs.Sum.{sum-grows}
 use Rattle.tasks.specs.declared.Task.{Task}
 use Rattle.tasks.specs.declared.TaskList.{TaskList}
 use Rattle.tasks.specs.declared.Finding.{Finding}
-use Rattle.tasks.specs.List.{taskAt}
+use Rattle.plan.specs.Plan.{Monotonic}
+use Rattle.tasks.specs.declared.Bounds.the-variants.{Kept, Broken}
+use Rattle.tasks.specs.List.{taskAt, planOf}
 use Rattle.tasks.specs.Euclid.{LeastCommonMultiple, lcm-is-least, lcm-pos}
-use Rattle.tasks.specs.Bounds.{multiple, memorySum, cycleOf, refusal, none, _orElse_, firstFound, outside, ofCount, ofNumbers, ofTask, ofMemory, ofCycle, found}
+use Rattle.tasks.specs.Bounds.{multiple, memorySum, cycleOf, jobsOf, answer, boundsOf, refusal, none, _orElse_, firstFound, outside, ofCount, ofNumbers, ofTask, ofMemory, ofCycle, found}
 
 -- ---- the first that is found
 module _ (f g : Finding) where
@@ -233,3 +235,48 @@ module _ (l : TaskList) (supply : ℕ) (K : KeepsBounds l supply) where
   pub cycle-least : (x : ℕ) → ((i : ℕ) → i < l .count → taskAt (l .tasks) i .period ∣ x) → cycleOf l ∣ x
   unfolding cycleOf
   cycle-least = multiple-least (l .tasks) (l .count) (λ i li. K .fits i li .period-from)
+
+  -- The plan of such a list is rate-monotonic, and no period is longer than the cycle.
+  pub plan-monotonic : Monotonic (planOf l)
+  unfolding planOf
+  plan-monotonic = record {
+    sound = record {
+      period-pos = λ i li. K .fits i li .period-from;
+      due-pos = λ i li. K .fits i li .period-from;
+      due-within = λ i li. omega arith;
+    };
+    one-runtime = λ i k li. refl;
+    runtime-pos = λ i li. K .fits i li .runtime-from;
+    by-deadline = λ i k li. refl;
+  }
+
+  pub period-within-cycle : (i : ℕ) → i < l .count → taskAt (l .tasks) i .period ≤ cycleOf l
+  period-within-cycle i li = le-of-dvd cycle-pos (period-divides-cycle i li)
+
+-- ---- the answer
+-- Kept is answered exactly for a list that keeps all bounds, with its cycle and job count.
+pub bounds-kept : (l : TaskList) (supply : ℕ) → KeepsBounds l supply → boundsOf l supply ≡ Kept (cycleOf l) (jobsOf l)
+unfolding boundsOf answer
+bounds-kept l supply K = choose-yes (eqb (found l supply .number) 0) _ _ (eq-eqb (found l supply .number) 0 (nothing-found l supply .1 K))
+
+pub bounds-broken : (l : TaskList) (supply : ℕ) → (found l supply .number ≡ 0 → ⊥) → boundsOf l supply ≡ Broken (found l supply .number) (found l supply .task)
+unfolding boundsOf answer
+bounds-broken l supply nz = choose-no (eqb (found l supply .number) 0) _ _ (ne-eqb (found l supply .number) 0 nz)
+
+pub record KeptAs (l : TaskList) (supply cycle jobs : ℕ) : Type 0 where
+  pub keeps : KeepsBounds l supply
+  pub cycle-is : cycle ≡ cycleOf l
+  pub jobs-is : jobs ≡ jobsOf l
+
+pub kept-tells : (l : TaskList) (supply cycle jobs : ℕ) → boundsOf l supply ≡ Kept cycle jobs → KeptAs l supply cycle jobs
+kept-tells l supply cycle jobs e =
+    ⊎-elim
+    (λ (z : found l supply .number ≡ 0).
+    let K = nothing-found l supply .0 z in
+    let same : Kept cycle jobs ≡ Kept (cycleOf l) (jobsOf l) = sym e ∙ bounds-kept l supply K in
+    record { keeps = K; cycle-is = cc; jobs-is = cc })
+    (λ (nz : found l supply .number ≡ 0 → ⊥).
+    let never : Kept cycle jobs ≡ Broken (found l supply .number) (found l supply .task) = sym e ∙ bounds-broken l supply nz in
+    let z : _≡_ {A = ℕ} 0 1 = cc in
+    absurd (omega arith))
+    (eq-or-ne (found l supply .number) 0)
