@@ -4,6 +4,7 @@ pub mod Rank
 pub mod Work
 pub mod Run
 pub mod Counting
+pub mod Progress
 pub mod Ahead
 pub mod Domination
 pub mod Busy

@@ -1,0 +1,60 @@
+-- Progress: what a job has had up to a slice, whether that slice lies before, in or after its window. It grows only in the
+-- slices that go to its task while it is current.
+use mathlib.Core.Path.{_≡_, sym, ap, _∙_}
+use mathlib.Core.Logic.{⊎-elim}
+use Prim.Native.Nat.{ℕ, suc, _+_, _-_, _≤_, _<_, min}
+use native.Mathlib.Omega.{arith}
+use native.Mathlib.Nat.{mul-le-mul-right}
+use Rattle.basis.specs.Choose.{le-or-lt}
+use Rattle.plan.specs.Plan.{Plan, Sound, Demand, release, deadline, job, age, gets, had, entry, given}
+use Rattle.plan.specs.Run.{age-below, release-age, had-since, had-after, given-in-none}
+
+-- How many slices of its window, from release to deadline, lie before slice t.
+unfoldable pub elapsed : Plan → ℕ → ℕ → ℕ → ℕ
+elapsed P i k t = min (t - release P i k) (P .due i)
+
+-- What job k of task i has had before slice t.
+unfoldable pub hadUpTo : Plan → Demand → ℕ → ℕ → ℕ → ℕ
+hadUpTo P d i k t = given P d i (release P i k) (elapsed P i k t)
+
+module _ (P : Plan) (S : Sound P) (d : Demand) (i : ℕ) (li : i < P .count) where
+  -- releases are a period apart
+  next-release : (k : ℕ) → release P i (suc k) ≡ release P i k + P .period i
+  unfolding release
+  next-release k = omega arith
+
+  releases-grow : (k m : ℕ) → k < m → release P i k + P .period i ≤ release P i m
+  unfolding release
+  releases-grow k m l = omega (arith, mul-le-mul-right (P .period i) l)
+
+  -- Before its release a job has had nothing.
+  pub nothing-before-release : (k t : ℕ) → t ≤ release P i k → hadUpTo P d i k t ≡ 0
+  unfolding hadUpTo elapsed
+  nothing-before-release k t l = given-in-none P d i (release P i k) (min (t - release P i k) (P .due i)) (omega arith)
+
+  -- The current job has had what the run says, while it is open.
+  pub current-had : (t : ℕ) → age P i t ≤ P .due i → hadUpTo P d i (job P i t) t ≡ had P d t i
+  unfolding hadUpTo elapsed
+  current-had t l =
+      ap (given P d i (release P i (job P i t))) (omega (arith, release-age P S i li t)) ∙ sym (had-since P S d i li t)
+
+  -- Its task's slices are its own,
+  pub current-grows : (t : ℕ) → age P i t < P .due i → hadUpTo P d i (job P i t) (suc t) ≡ had P d t i + gets (entry P d t) i
+  unfolding hadUpTo elapsed
+  current-grows t l =
+      ap (given P d i (release P i (job P i t))) (omega (arith, release-age P S i li t)) ∙ sym (had-after P S d i li t)
+
+  -- and no other job's.
+  pub others-stay : (k t : ℕ) → (k ≡ job P i t → ⊥) → hadUpTo P d i k (suc t) ≡ hadUpTo P d i k t
+  unfolding hadUpTo elapsed
+  others-stay k t ne =
+      ap (given P d i (release P i k))
+      (⊎-elim
+      (λ (l : job P i t ≤ k). omega (arith, releases-grow (job P i t) k (omega arith), release-age P S i li t, age-below P S i li t))
+      (λ (l : k < job P i t). omega (arith, releases-grow k (job P i t) l, release-age P S i li t, S .due-within i li))
+      (le-or-lt (job P i t) k))
+
+  -- From its deadline on a job has had what it had there.
+  pub settled : (k t : ℕ) → deadline P i k ≤ t → hadUpTo P d i k t ≡ given P d i (release P i k) (P .due i)
+  unfolding hadUpTo elapsed deadline
+  settled k t l = ap (given P d i (release P i k)) (omega arith)
