@@ -30,7 +30,7 @@ module _ (P : Plan) (S : Sound P) (d c : Demand) (i : ℕ) (li : i < P .count) w
 
 module _ (P : Plan) (S : Sound P) (d : Demand) (i : ℕ) (li : i < P .count) where
   -- a job with its deadline after slice t that is on time has had its demand then
-  had-by-deadline : (t : ℕ) → OnTimeUpTo P d (suc t) → suc (age P i t) ≡ P .due i → d i (job P i t) ≤ had P d t i + gets (entry P d t) i
+  pub had-by-deadline : (t : ℕ) → OnTimeUpTo P d (suc t) → suc (age P i t) ≡ P .due i → d i (job P i t) ≤ had P d t i + gets (entry P d t) i
   unfolding OnTimeUpTo OnTime HadBy deadline
   had-by-deadline t on e =
       rw (had-after P S d i li t, e) (on i (job P i t) li (omega (arith, release-age P S i li t)))

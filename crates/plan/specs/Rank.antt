@@ -38,7 +38,7 @@ module _ (key : ℕ → ℕ) where
   not-before-key i j h =
       ⊎-elim (λ (l : key j ≤ key i). l) (λ (l : key i < key j). let z : true ≡ false = sym (smaller-key-first i j l) ∙ h in absurd (true≢false z)) (le-or-lt (key j) (key i))
 
-  not-before-place : (i j : ℕ) → ranksBefore key i j ≡ false → key i ≡ key j → j ≤ i
+  pub not-before-place : (i j : ℕ) → ranksBefore key i j ≡ false → key i ≡ key j → j ≤ i
   not-before-place i j h e = ltb-false i j (sym (equal-keys-by-place i j e) ∙ h)
 
   pub rank-tells : (n i j : ℕ) → i < n → j < n → ranksBefore key i j ≡ ltb (rank n key i) (rank n key j)

@@ -280,3 +280,33 @@ kept-tells l supply cycle jobs e =
     let z : _≡_ {A = ℕ} 0 1 = cc in
     absurd (omega arith))
     (eq-or-ne (found l supply .number) 0)
+
+-- ---- numbers of refusal
+-- No number of refusal that is found is above 6.
+else-most : (f g : Finding) (m : ℕ) → f .number ≤ m → g .number ≤ m → (f orElse g) .number ≤ m
+else-most f g m a b =
+    ⊎-elim
+    (λ (z : f .number ≡ 0). omega (arith, ap (λ (x : Finding). x .number) (else-found f g z)))
+    (λ (nz : f .number ≡ 0 → ⊥). omega (arith, ap (λ (x : Finding). x .number) (else-kept f g nz)))
+    (eq-or-ne (f .number) 0)
+
+first-most : (find : ℕ → Finding) (m : ℕ) → ((i : ℕ) → find i .number ≤ m) → (n : ℕ) → firstFound find n .number ≤ m
+unfolding firstFound none refusal
+first-most find m h zero = omega arith
+first-most find m h (suc n) = else-most (firstFound find n) (find n) m (first-most find m h n) (h n)
+
+test-most : (b : Bool) (k t m : ℕ) (f : Finding) → k ≤ m → f .number ≤ m → choose b (refusal k t) f .number ≤ m
+unfolding refusal choose
+test-most true k t m f a b = a
+test-most false k t m f a b = b
+
+pub found-most : (l : TaskList) (supply : ℕ) → found l supply .number ≤ 6
+unfolding found ofCount ofTask ofNumbers ofMemory ofCycle
+found-most l supply =
+    else-most _ _ 6 (test-most _ 1 0 6 _ (omega arith) (test-most _ 2 0 6 none (omega arith) none-most))
+    (else-most _ _ 6 (first-most (ofTask (l .tasks)) 6 (λ i. test-most _ 3 (suc i) 6 _ (omega arith) (test-most _ 4 (suc i) 6 none (omega arith) none-most)) (l .count))
+    (else-most _ _ 6 (first-most (ofMemory (l .tasks) supply) 6 (λ i. test-most _ 5 (suc i) 6 none (omega arith) none-most) (l .count))
+    (first-most (ofCycle (l .tasks)) 6 (λ i. test-most _ 6 (suc i) 6 none (omega arith) none-most) (l .count))))
+  where
+    none-most : none .number ≤ 6
+    none-most = omega (arith, none-is-none)
