@@ -546,6 +546,8 @@ def refused_start(cases, dice, answer):
     cases.log_fill(length, dice.below(256))
     cases.start(dice.below(3), dice.roll())
     cases.step(dice.pick([1, dice.roll()]), dice.below(3))
+    if len(cases.log) > SHORT_LOG:
+        cases.log_check()
 
 
 def foreign_table(dice, count, cycle, tables):
