@@ -1,0 +1,836 @@
+"""Cases and expected answers from the reference, in one binary file (see FORMAT.md).
+
+    python3 generate.py OUT            writes the file
+    python3 generate.py --check FILE   makes it again and compares
+
+The same bytes come out every time: the dice are seeded and use whole numbers alone.
+"""
+
+import struct
+import sys
+from collections import Counter
+
+import model
+from model import CLOCK_ROUND, FILLING, LONGEST, NONE_NAMED, TABLE
+from model import Place, State, Task, bare, rounded_up
+
+SEED = 0x0B5E55ED51ACE5
+STEPS_WANTED = 202000  # accepted steps in all
+
+# Record tags.
+END, LIST, TABLE_FILL, TABLE_BYTES, TABLE_BYTE, TABLE_LENT, BUILD = range(7)
+LOG_FILL, LOG_LENT, LOG_CHECK, START, STATE, STEP, CONVERSION = range(7, 14)
+
+MAGIC = b"SLICES01"
+SHORT_LOG = 64  # a lent log up to this long is part of every step's checksum
+MOST_TABLE, MOST_LOG, MOST_LIST = 4200, 66000, 272
+TOP = CLOCK_ROUND - 1
+
+
+def checksum(data, h=2166136261):
+    for byte in data:
+        h = ((h ^ byte) * 16777619) & 0xFFFFFFFF
+    return h
+
+
+def pattern(length, fill):
+    """What lent memory holds before the first call."""
+    return bytearray((fill + j) % 256 for j in range(length))
+
+
+class Dice:
+    """The xorshift64* generator."""
+
+    def __init__(self, seed):
+        self.x = seed
+
+    def roll(self):
+        x = self.x
+        x ^= x >> 12
+        x ^= (x << 25) & 0xFFFFFFFFFFFFFFFF
+        x ^= x >> 27
+        self.x = x
+        return (x * 2685821657736338717 & 0xFFFFFFFFFFFFFFFF) >> 32
+
+    def below(self, n):
+        return self.roll() % n
+
+    def between(self, low, high):
+        return low + self.below(high - low + 1)
+
+    def pick(self, things):
+        return things[self.below(len(things))]
+
+    def one_in(self, n):
+        return self.below(n) == 0
+
+    def shuffled(self, things):
+        rest, out = list(things), []
+        while rest:
+            out.append(rest.pop(self.below(len(rest))))
+        return out
+
+
+class Cases:
+    """Writes records, and holds what a reader of the file holds: list, table, log and state."""
+
+    def __init__(self):
+        self.out = bytearray(MAGIC)
+        self.tasks, self.supply = (), 0
+        self.table, self.table_lent = bytearray(), 0
+        self.log, self.log_lent = bytearray(), 0
+        self.state = State()
+        self.counts = Counter()
+
+    def put(self, tag, layout="", *numbers):
+        self.out += struct.pack("<B" + layout, tag, *numbers)
+
+    def count(self, what, refusal):
+        self.counts[what] += 1
+        self.counts[what, refusal] += 1
+
+    def list(self, tasks, supply):
+        assert len(tasks) <= MOST_LIST
+        self.tasks, self.supply = tuple(tasks), supply
+        self.put(LIST, "II", supply, len(tasks))
+        for task in tasks:
+            self.out += struct.pack("<III", *task)
+        answer = model.verdict(self.tasks, supply)
+        self.out += struct.pack("<BBiII", *answer)
+        self.count("list", answer.refusal)
+        return answer
+
+    def table_fill(self, length, fill):
+        assert length <= MOST_TABLE
+        self.table, self.table_lent = pattern(length, fill), length
+        self.put(TABLE_FILL, "IB", length, fill)
+
+    def table_bytes(self, data):
+        assert len(data) <= MOST_TABLE
+        self.table, self.table_lent = bytearray(data), len(data)
+        self.put(TABLE_BYTES, "I", len(data))
+        self.out += data
+
+    def table_byte(self, place, byte):
+        self.table[place] = byte
+        self.put(TABLE_BYTE, "IB", place, byte)
+
+    def lend_table(self, length):
+        assert length <= len(self.table)
+        self.table_lent = length
+        self.put(TABLE_LENT, "I", length)
+
+    def build(self):
+        assert self.table_lent == len(self.table)
+        before = bytes(self.table)
+        answer = model.build(self.tasks, self.supply, self.table)
+        assert self.table[answer.cycle :] == before[answer.cycle :]
+        self.put(BUILD, "BBiIII", *answer, checksum(self.table))
+        self.count("build", answer.refusal)
+        return answer
+
+    def log_fill(self, length, fill):
+        assert length <= MOST_LOG
+        self.log, self.log_lent = pattern(length, fill), length
+        self.put(LOG_FILL, "IB", length, fill)
+
+    def lend_log(self, length):
+        assert length <= len(self.log)
+        self.log_lent = length
+        self.put(LOG_LENT, "I", length)
+
+    def log_check(self):
+        self.put(LOG_CHECK, "I", checksum(self.log[: self.log_lent]))
+        self.counts["log check"] += 1
+
+    def start(self, mode, clock):
+        assert self.log_lent == len(self.log)
+        before = bytes(self.log)
+        answer, self.state = model.start(self.tasks, self.supply, mode, clock, self.log)
+        assert self.log[answer.jobs :] == before[answer.jobs :]
+        self.put(START, "BI", mode, clock)
+        hashes = checksum(self.state.to_bytes()), checksum(self.log)
+        self.out += struct.pack("<BBiIIII", *answer, *hashes)
+        self.count("start", answer.refusal)
+        if not answer.refusal:
+            self.counts["started in mode", mode] += 1
+        return answer
+
+    def set_state(self, state):
+        self.state = state.copy()
+        self.put(STATE)
+        self.out += state.to_bytes()
+        self.counts["state"] += 1
+
+    def step(self, clock, report):
+        """Asks who runs, then steps."""
+        table = self.table[: self.table_lent]
+        log = self.log[: self.log_lent]
+        before = self.state
+        who_refusal, task = model.who(before, table)
+        refusal, self.state = model.step(before, table, log, clock, report)
+        changes = []
+        if log != self.log[: self.log_lent]:
+            changes = [(j, log[j]) for j in range(len(log)) if log[j] != self.log[j]]
+        assert not refusal or (self.state is before and not changes)
+        self.log[: self.log_lent] = log
+        hashed = self.state.to_bytes() + (bytes(log) if len(log) <= SHORT_LOG else b"")
+        self.put(STEP, "IB", clock, report)
+        self.out += struct.pack(
+            "<BBBIB", who_refusal, task, refusal, checksum(hashed), len(changes)
+        )
+        for change in changes:
+            self.out += struct.pack("<IB", *change)
+        self.count("step", refusal)
+        self.counts["who", who_refusal] += 1
+        if not refusal:
+            self.counts["accepted in mode", before.mode] += 1
+        for _, byte in changes:
+            self.counts["log byte", byte] += 1
+        return refusal
+
+    def conversion(self, kind, microseconds, slice_length):
+        """Kind 0 converts a run-time, 1 a period."""
+        convert = (model.runtime_in_slices, model.period_in_slices)[kind]
+        refusal, slices = convert(microseconds, slice_length)
+        self.put(CONVERSION, "BIIBI", kind, microseconds, slice_length, refusal, slices)
+        self.count("conversion", refusal)
+
+    def end(self):
+        totals = [self.counts[what] for what in ("list", "build", "start", "step", "conversion")]
+        self.put(END, "IIIII", *totals)
+
+
+# Lists
+
+
+def divisors(n):
+    return [d for d in range(1, n + 1) if n % d == 0]
+
+
+SMALL = [n for n in range(2, 100) if len(divisors(n)) >= 3]
+MIDDLE = [n for n in range(100, 520, 4) if len(divisors(n)) >= 8]
+LARGE = [1024, 1260, 1680, 2048, 2310, 2520, 3600, 3840, 4032, 4080, 4095, 4096]
+
+
+def random_tasks(dice, cycle, count, percent):
+    """Periods dividing the cycle, run-times for about this load, memory 0."""
+    dividing = divisors(cycle)
+    tasks = []
+    for _ in range(count):
+        period = max(dice.pick(dividing) for _ in range(1 + count // 4))
+        share = period * percent * dice.between(50, 150) // (count * 10000)
+        tasks.append(Task(period, min(max(share, 1), period), 0))
+    return tasks
+
+
+def any_periods(dice, most, count):
+    periods = [dice.between(1, most) for _ in range(count)]
+    return [Task(period, dice.between(1, rounded_up(period, 3)), 0) for period in periods]
+
+
+def with_memory(dice, tasks):
+    """The list with some memory, and a supply that may or may not do."""
+    kind = dice.below(8)
+    if kind < 3 or not tasks:
+        return tasks, dice.pick([0, 65536, TOP])
+    most = [100, 65536, TOP][dice.below(3)] if kind < 7 else TOP // len(tasks)
+    tasks = [task._replace(memory=dice.between(0, most)) for task in tasks]
+    total = sum(task.memory for task in tasks)
+    supplies = [total, total, total, total + 1, total - 1, total // 2, total % CLOCK_ROUND, TOP, 0]
+    return tasks, min(max(dice.pick(supplies), 0), TOP)
+
+
+def edge_pair(dice, tasks):
+    """The list with one run-time as long as is accepted, and with one slice more; or nothing."""
+    i = dice.below(len(tasks))
+
+    def with_runtime(runtime):
+        return tasks[:i] + [tasks[i]._replace(runtime=runtime)] + tasks[i + 1 :]
+
+    if model.verdict(with_runtime(1), 0).refusal:
+        return []
+    low, high = 1, tasks[i].period + 1  # low is accepted, high is not
+    while low + 1 < high:
+        middle = (low + high) // 2
+        if model.verdict(with_runtime(middle), 0).refusal:
+            high = middle
+        else:
+            low = middle
+    return [with_runtime(low), with_runtime(high)]
+
+
+def full_load(dice, cycle, count):
+    """Each period divides the next; the last task fills what the others leave."""
+    periods = [cycle]
+    while len(periods) < count:
+        periods.insert(0, dice.pick(divisors(periods[0])))
+    left, tasks = cycle, []
+    for period in periods[:-1]:
+        most = left * period // cycle
+        if most == 0:
+            continue
+        runtime = dice.between(1, max(1, most // 2))
+        left -= runtime * (cycle // period)
+        tasks.append(Task(period, runtime, 0))
+    if left:
+        tasks.append(Task(cycle, left, 0))
+    return dice.shuffled(tasks)
+
+
+def load_and_cycle(tasks):
+    """Slices wanted in the cycle, and slices in it."""
+    cycle = model.check_bounds(tasks, 0)[1]
+    return sum(task.runtime * (cycle // task.period) for task in tasks), cycle
+
+
+def has_margin_tie(tasks):
+    answer = model.verdict(tasks, 0)
+    if answer.refusal:
+        return False
+    _, jobs = model.slice_rule(tasks, answer.cycle)
+    margins = [task.period - row[0].end for task, row in zip(tasks, jobs)]
+    tied = [i + 1 for i, margin in enumerate(margins) if margin == answer.margin]
+    return len(tied) > 1 and tied[0] != answer.task
+
+
+def has_lateness_tie(tasks):
+    refusal, cycle = model.check_bounds(tasks, 0)
+    if refusal:
+        return False
+    _, jobs = model.slice_rule(tasks, cycle)
+    missed = [job for row in jobs for job in row if job.received < job.runtime]
+    earliest = min([job.deadline for job in missed], default=0)
+    late = [job for job in missed if job.deadline == earliest]
+    # Nothing is late before, so these are first jobs (the first is the worst), of one period.
+    assert all(job.release == 0 for job in late)
+    return len(late) > 1
+
+
+def bound_lists():
+    """Lists at and over every bound, with their supplies."""
+    lists = [(tasks, 0) for tasks, _, _ in model.WORKED]
+    one, full = Task(16, 1, 0), Task(1, 1, 0)
+    for count in (0, 1, 2, 15, 16, 17, 18, 32, 100, 256, 257, 259, 272):
+        lists += [([one] * count, 0), ([Task(0, 0, TOP)] * count, 0), ([full] * count, 5)]
+        lists.append(([Task(4096, 256, 1)] * count, 16))
+    for period in (0, 1, 2, 4095, 4096, 4097, 8192, 65536, 2 ** 31, TOP):
+        for runtime in (0, 1, period - 1, period, period + 1, 4096, 4097, TOP):
+            if 0 <= runtime <= TOP:
+                lists.append(([Task(period, runtime, 0)], 0))
+                lists.append(([Task(12, 1, 0), Task(6, 2, 0), Task(period, runtime, 0)], TOP))
+    # Refusals 3 and 4 go task by task, before 5 and 6.
+    bad = [Task(0, 1, 0), Task(4097, 1, 0), Task(4, 0, 0), Task(4, 5, 0), Task(0, 0, TOP)]
+    for first in bad:
+        for second in bad:
+            lists.append(([Task(64, 1, 9), first, Task(65, 1, TOP), second], 3))
+            lists.append(([first, second], 0))
+    # 5 before 6 before 7.
+    clash = [Task(64, 64, 7), Task(65, 65, 8), Task(3, 3, 1)]
+    lists += [(clash, supply) for supply in (0, 6, 7, 14, 15, 16, TOP)]
+    lists += [([Task(2, 2, 7), Task(3, 3, 8)], supply) for supply in (0, 7, 14, 15, 16)]
+    # Memory near the ends of 32 and 36 bits.
+    for memories in (
+        [TOP], [TOP, 0], [TOP, 1], [1, TOP], [TOP - 1, 1], [TOP - 1, 1, 1], [2 ** 31, 2 ** 31],
+        [2 ** 31, 2 ** 31 - 1], [0, 0, 0], [TOP] * 16, [TOP, 1] * 8, [2 ** 28] * 16,
+        [2 ** 28 - 1] * 16, [2 ** 28] * 15 + [2 ** 28 - 1], [0] * 15 + [TOP], [0] * 14 + [TOP, 1],
+    ):
+        tasks = [Task(32, 1, memory) for memory in memories]
+        total = sum(memories)
+        for supply in (0, 1, total - 1, total, total + 1, total % CLOCK_ROUND, TOP - 1, TOP):
+            if 0 <= supply <= TOP:
+                lists.append((tasks, supply))
+    # Cycles at and about the longest; 4,097 is 17 times 241.
+    for periods in (
+        (63, 65), (65, 63), (5, 7, 9, 13), (4095,), (4096, 1), (4096, 2048, 4096), (17, 241),
+        (241, 17), (4096, 3), (3, 4096), (4096, 4095), (4095, 4096), (64, 63, 65), (2, 2049),
+        (2049, 2), (1024, 4), (4, 1366), (3, 1365), (5, 819), (5, 820), (16, 256, 4096, 4095),
+        (63, 64, 2), (2, 3, 5, 7, 11), (2, 3, 5, 7, 11, 13), (7, 8, 9, 5), (9, 8, 7, 13), (61, 67),
+        (59, 61), (67, 61, 2), (4, 4, 4), (1, 1), (2048, 1024, 512, 3), (1, 4096, 1, 4096),
+        tuple(range(1, 17)), (4093, 2), (4093,), (4091, 1, 4093), (2, 4, 8, 16, 32, 64, 128) * 2,
+    ):
+        lists.append(([Task(period, 1, 0) for period in periods], 0))
+        lists.append(([Task(period, max(1, period // 3), 0) for period in periods], 0))
+    # A whole load on one task, and a second one that gets nothing.
+    for period in (1, 2, 3, 64, 4096):
+        lists.append((bare((period, period)), 0))
+        lists.append((bare((period, period), (period, 1)), 0))
+        lists.append((bare((4096, 1), (period, period)), 0))
+    return lists
+
+
+def random_lists(dice):
+    """Lists from easy to overloaded, with their supplies."""
+    for _ in range(800):
+        cycle = dice.pick(dice.pick([SMALL, SMALL, SMALL, MIDDLE]))
+        count = dice.between(1, dice.pick([3, 5, 8, 16]))
+        tasks = random_tasks(dice, cycle, count, dice.between(20, 140))
+        yield with_memory(dice, tasks)
+    for _ in range(40):
+        cycle = dice.pick(LARGE)
+        yield random_tasks(dice, cycle, dice.between(1, 16), dice.between(20, 120)), 0
+    for _ in range(150):  # any periods: the cycle is often too long
+        most = dice.pick([6, 10, 20, 70, 100, 1000, LONGEST])
+        yield with_memory(dice, any_periods(dice, most, dice.between(1, 5)))
+    for _ in range(200):  # faults strewn over good lists
+        tasks = random_tasks(dice, dice.pick(SMALL), dice.between(1, 18), 60)
+        for _ in range(dice.between(1, 3)):
+            i = dice.below(len(tasks))
+            period = tasks[i].period
+            fault = dice.pick([
+                {"period": 0}, {"period": 4097}, {"period": dice.roll()}, {"runtime": 0},
+                {"runtime": period + 1}, {"runtime": dice.roll()}, {"memory": dice.roll()},
+                {"period": 4093}, {"runtime": period},
+            ])
+            tasks[i] = tasks[i]._replace(**fault)
+        yield tasks, dice.pick([0, TOP, dice.roll()])
+    for _ in range(320):  # lists that just pass and just fail
+        cycle = dice.pick(dice.pick([SMALL, SMALL, MIDDLE]))
+        tasks = random_tasks(dice, cycle, dice.between(1, 6), dice.between(30, 90))
+        for edge in edge_pair(dice, tasks):
+            yield edge, 0
+    for _ in range(120):  # full load, and one slice more
+        cycle = dice.pick(dice.pick([SMALL, SMALL, MIDDLE]))
+        tasks = full_load(dice, cycle, dice.between(1, 7))
+        yield tasks, 0
+        i = dice.below(len(tasks))
+        yield tasks[:i] + [tasks[i]._replace(runtime=tasks[i].runtime + 1)] + tasks[i + 1 :], 0
+    for tie, percents in ((has_margin_tie, (40, 100)), (has_lateness_tie, (120, 250))):
+        found = 0
+        while found < 80:
+            count = dice.between(2, 6)
+            tasks = random_tasks(dice, dice.pick(SMALL), count, dice.between(*percents))
+            if tie(tuple(tasks)):
+                found += 1
+                yield tasks, 0
+    late, full = 0, 0
+    while late < 120 or full < 60:  # late at no more than full load; full load without chains
+        tasks = any_periods(dice, 24, dice.between(2, 4))
+        refusal = model.verdict(tasks, 0).refusal
+        load, cycle = load_and_cycle(tasks)
+        if refusal == 7 and load <= cycle and late < 120:
+            late += 1
+            yield tasks, 0
+        if refusal == 0 and load < cycle < 300 and full < 60:
+            full += 1
+            yield dice.shuffled(tasks + [Task(cycle, cycle - load, 0)]), 0
+
+
+# Runs
+
+
+def some_clock(dice, cycle):
+    """A clock reading for a start; often one that comes round to 0 within the run."""
+    near = CLOCK_ROUND - dice.between(1, cycle + 1)
+    return dice.pick([0, TOP, near, near, dice.roll()])
+
+
+def next_reading(state):
+    return (state.clock + 1) % CLOCK_ROUND
+
+
+def some_needs(dice, tasks, cycle):
+    """needs[i][k]: below, at or above the run-time."""
+    flavour = dice.below(4)
+    needs = []
+    for task in tasks:
+        row = []
+        for _ in range(cycle // task.period):
+            c = task.runtime
+            anything = dice.between(1, c + 1)
+            row.append([anything, c, dice.pick([1, anything]), dice.pick([c, c + 1])][flavour])
+        needs.append(row)
+    return needs
+
+
+def good_report(state, table, needs):
+    refusal, task = model.who(state, table)
+    if refusal or task == 0:
+        return 0
+    place = state.places[task - 1]
+    need = needs[task - 1][state.position // place.period]
+    return 1 if place.used + 1 == need else 0
+
+
+FAULTS = ("short table", "no entry", "short log", "clock", "report", "finished while idle")
+
+
+def faulty_call(cases, dice, report):
+    """A step with one or more faults. It may still be accepted: filling looks at no table."""
+    state = cases.state
+    clock = next_reading(state)
+    chosen = [dice.pick(FAULTS) for _ in range(dice.pick([1, 1, 2, 4]))]
+    old_byte = None
+    if "short table" in chosen:
+        longest = min(state.cycle, cases.table_lent)
+        cases.lend_table(dice.pick([0, max(longest, 1) - 1, dice.below(longest + 1)]))
+    if "no entry" in chosen and state.position < len(cases.table):
+        old_byte = cases.table[state.position]
+        above = min(state.count, 254) + 1
+        byte = dice.pick([above, 17, 255, dice.between(above, 255)])
+        cases.table_byte(state.position, byte)
+    if "short log" in chosen:
+        jobs = sum(state.cycle // place.period for place in state.places if place.period)
+        jobs = min(jobs, len(cases.log))
+        cases.lend_log(dice.pick([0, max(jobs, 1) - 1, dice.below(jobs + 1)]))
+    if "clock" in chosen:
+        near = [(state.clock + off) % CLOCK_ROUND for off in (-1, 0, 2)]
+        clock = dice.pick(near + [0, 1, TOP, dice.roll()])
+    if "report" in chosen:
+        report = dice.pick([2, 3, 128, 254, 255])
+    elif "finished while idle" in chosen:
+        if model.who(state, cases.table[: cases.table_lent]) == (0, 0):
+            report = 1
+    cases.step(clock, report)
+    if cases.table_lent != len(cases.table):
+        cases.lend_table(len(cases.table))
+    if old_byte is not None:
+        cases.table_byte(state.position, old_byte)
+    if cases.log_lent != len(cases.log):
+        cases.lend_log(len(cases.log))
+
+
+def run(cases, dice, mode, own_table, stop_at=None):
+    """A run of the list in hand to the cycle's end or to stop_at, faulty calls in between."""
+    answer = model.verdict(cases.tasks, cases.supply)
+    spare = dice.pick([0, 0, 1, 7, 30])
+    cases.log_fill(answer.jobs + spare, dice.below(256))
+    cases.start(mode, some_clock(dice, answer.cycle))
+    needs = some_needs(dice, cases.tasks, answer.cycle)
+    faulty = dice.pick([0, 6, 20, 100])
+    stop = answer.cycle if stop_at is None else stop_at
+    while cases.state.position < stop:
+        table = cases.table[: cases.table_lent]
+        if faulty and dice.one_in(faulty):
+            faulty_call(cases, dice, good_report(cases.state, table, needs))
+        else:
+            report = good_report(cases.state, table, needs)
+            if cases.step(next_reading(cases.state), report) == 11:
+                break  # a foreign table with no entry here
+        if len(cases.log) > SHORT_LOG and dice.one_in(40):
+            cases.log_check()
+    if stop_at is None:
+        cases.step(next_reading(cases.state), 0)  # refused: the run is over
+        if dice.one_in(3):
+            faulty_call(cases, dice, 1)
+    if len(cases.log) > SHORT_LOG:
+        cases.log_check()
+    if own_table and stop_at is None:
+        assert list(cases.log[: answer.jobs]) == model.expected_log(cases.tasks, needs)
+        assert cases.state.position == cases.state.cycle
+
+
+def list_and_builds(cases, dice, tasks, supply):
+    """Verdict, and tables too short, then long enough; the last is left in hand."""
+    answer = cases.list(tasks, supply)
+    cycle = answer.cycle
+    if answer.refusal:
+        cases.table_fill(dice.pick([0, 1, dice.below(100)]), dice.below(256))
+        cases.build()
+        return answer
+    if dice.one_in(2):
+        cases.table_fill(dice.pick([0, cycle - 1, dice.below(cycle)]), dice.below(256))
+        cases.build()
+    longer = dice.pick([cycle, cycle, cycle + 1, cycle + dice.below(100)])
+    length = dice.pick([4096, MOST_TABLE]) if dice.one_in(60) else longer
+    cases.table_fill(length, dice.below(256))
+    cases.build()
+    return answer
+
+
+def refused_start(cases, dice, answer):
+    """A start that is refused, and a step on the state it gives."""
+    length = dice.below(40)
+    if answer.jobs:
+        length = dice.pick([0, answer.jobs - 1, dice.below(answer.jobs)])
+    cases.log_fill(length, dice.below(256))
+    cases.start(dice.below(3), dice.roll())
+    cases.step(dice.pick([1, dice.roll()]), dice.below(3))
+    if len(cases.log) > SHORT_LOG:
+        cases.log_check()
+
+
+def foreign_table(dice, count, cycle, tables):
+    """Another list's table, or bytes within the count, or a few above it."""
+    if tables and dice.one_in(2):
+        other = dice.pick(tables)
+        times = rounded_up(cycle, len(other))
+        return bytes(other * times)[: cycle + dice.below(3)]
+    data = bytearray(dice.below(count + 1) for _ in range(cycle))
+    if dice.one_in(3):
+        data[dice.below(cycle)] = dice.pick([count + 1, 255])
+    return bytes(data)
+
+
+def run_in_modes(cases, dice, cycle, tables):
+    """Runs of the list in hand: by the table, filling, with none named, and by a foreign table."""
+    run(cases, dice, TABLE, True)
+    own = bytes(cases.table)
+    if dice.one_in(3):
+        run(cases, dice, NONE_NAMED, True)
+    if dice.one_in(3):
+        cases.table_bytes(b"")
+    run(cases, dice, FILLING, True)
+    if dice.one_in(4):
+        cases.table_bytes(foreign_table(dice, len(cases.tasks), cycle, tables))
+        run(cases, dice, dice.pick([TABLE, TABLE, NONE_NAMED]), False)
+    if len(tables) < 200 and cycle <= 60:
+        tables.append(own[:cycle])
+
+
+# States
+
+
+def altered(state, **numbers):
+    other = state.copy()
+    for name, number in numbers.items():
+        setattr(other, name, number)
+    return other
+
+
+def placed(state, i, **numbers):
+    other = state.copy()
+    for name, number in numbers.items():
+        setattr(other.places[i], name, number)
+    return other
+
+
+def damaged_states(dice, state):
+    """Each condition of soundness broken in turn, and what stands just inside it."""
+    n, cycle = state.count, state.cycle
+    for count in (0, n - 1, n + 1, 16, 17, 255, 256 + n, 65536 + n):
+        yield altered(state, count=count)
+    for count in (2 ** 32, 2 ** 32 + n, 2 ** 63, 2 ** 64 - 1):
+        yield altered(state, count=count)
+    for other in (0, 1, cycle - 1, cycle + 1, 2 * cycle, 4096, 4097, 8192, 2 ** 31, TOP):
+        yield altered(state, cycle=other)
+    for position in (0, cycle - 1, cycle, cycle + 1, 4096, 4097, TOP):
+        yield altered(state, position=position)
+    yield altered(state, cycle=0, position=0)
+    yield altered(state, mode=1 - state.mode)
+    for i in sorted({0, n - 1, dice.below(n)}):
+        here = state.places[i]
+        not_dividing = [t for t in range(1, cycle + 2) if cycle % t != 0]
+        for period in (0, cycle, not_dividing[0], not_dividing[-1], 4097, 8192, TOP):
+            yield placed(state, i, period=period)
+        yield altered(placed(state, i, period=8192), cycle=8192)
+        for runtime in (0, 1, here.period, here.period + 1, TOP):
+            yield placed(state, i, runtime=runtime)
+        yield placed(state, i, runtime=0, used=0, ended=True)
+        for used in (0, here.runtime - 1, here.runtime, here.runtime + 1, TOP):
+            for ended in (False, True):
+                yield placed(state, i, used=used, ended=ended)
+    for i in sorted({min(n, 15), 15}):
+        if i >= n:  # beyond the task count: not looked at, and handed on
+            yield placed(state, i, period=0, runtime=TOP, used=7, ended=True)
+            yield placed(state, i, period=1, runtime=1, used=0, ended=False)
+            yield placed(state, i, period=TOP, runtime=0, used=TOP, ended=False)
+
+
+def damaged_runs(cases, dice, accepted):
+    """Runs broken off, damaged states handed in, and the runs taken up again."""
+    sixteen = [tasks for tasks in accepted if len(tasks) == 16]
+    for number in range(14):
+        tasks = dice.pick(sixteen if number % 5 == 1 else accepted)
+        answer = list_and_builds(cases, dice, tasks, 0)
+        at = 0 if number == 0 else dice.below(answer.cycle)
+        run(cases, dice, dice.below(3), True, stop_at=at)
+        kept = cases.state
+        for state in damaged_states(dice, kept):
+            cases.set_state(state)
+            if dice.one_in(4):
+                faulty_call(cases, dice, dice.below(2))
+            else:
+                cases.step(next_reading(state), dice.pick([0, 0, 0, 1]))
+        cases.set_state(kept)
+        while cases.state.position < cases.state.cycle:
+            cases.step(next_reading(cases.state), 0)
+        if len(cases.log) > SHORT_LOG:
+            cases.log_check()
+
+
+def made_up_state(dice, cycle):
+    """A sound state that perhaps no run leads to; places beyond the count hold anything."""
+    state = State()
+    state.count = dice.between(1, 16)
+    state.cycle = cycle
+    state.position = dice.pick([0, cycle - 1, dice.below(cycle), dice.below(cycle)])
+    state.clock = dice.pick([TOP, TOP - 1, dice.roll()])
+    state.mode = dice.below(2)
+    for i in range(16):
+        if i < state.count:
+            period = dice.pick(divisors(cycle))
+            runtime = dice.between(1, dice.pick([period, 1 + period // 3]))
+            ended = dice.one_in(3)
+            used = dice.between(0, runtime if ended else runtime - 1)
+            state.places[i] = Place(period, runtime, used, ended)
+        elif dice.one_in(3):
+            state.places[i] = Place(dice.roll(), dice.roll(), dice.roll(), dice.one_in(2))
+    assert model.is_sound(state)
+    return state
+
+
+def made_up_runs(cases, dice):
+    for number in range(240):
+        cycle = dice.pick(SMALL) if number % 12 else dice.pick(MIDDLE)
+        state = made_up_state(dice, cycle)
+        cases.table_bytes(foreign_table(dice, state.count, cycle, []))
+        cases.log_fill(model.job_count(state) + dice.below(3), dice.below(256))
+        cases.set_state(state)
+        for _ in range(12):
+            if dice.one_in(6):
+                faulty_call(cases, dice, dice.below(2))
+            else:
+                idle = model.who(cases.state, cases.table)[1] == 0
+                report = 0 if idle else dice.below(2)
+                cases.step(next_reading(cases.state), report)
+        if len(cases.log) > SHORT_LOG:
+            cases.log_check()
+
+
+# Full size
+
+
+def full_size_lists(dice):
+    """Accepted lists of 16 tasks with a cycle of 4,095 or 4,096, and a mode for each."""
+    yield [Task(4 << min(i, 10), 1 + i // 4, 0) for i in range(16)], TABLE
+    yield [Task(4096, 256, 1)] * 16, FILLING  # full load, one period
+    for cycle, mode in ((4096, NONE_NAMED), (4096, FILLING), (4095, TABLE)):
+        tasks = []
+        while model.verdict(tasks, 0).cycle != cycle:
+            tasks = random_tasks(dice, cycle, 16, 95)
+        yield tasks, mode
+
+
+def full_size(cases, dice):
+    for tasks, mode in full_size_lists(dice):
+        answer = list_and_builds(cases, dice, tasks, 16)
+        assert answer.refusal == 0 and answer.cycle >= 4095
+        run(cases, dice, mode, True)
+    # The fullest list has no accepted run; a made-up state shows all its 65,536 jobs.
+    answer = list_and_builds(cases, dice, [Task(1, 1, 0)] * 16, 0)
+    assert answer.refusal == 7
+    state = State()
+    state.count, state.cycle, state.clock = 16, 4096, TOP - 20
+    state.places = [Place(1, 1, 0, False) for _ in range(16)]
+    assert model.job_count(state) == 65536
+    for mode, length in ((TABLE, 65536), (FILLING, MOST_LOG)):
+        state.mode = mode
+        cases.table_bytes(bytes(dice.below(17) for _ in range(MOST_TABLE)))
+        cases.log_fill(length, dice.below(256))
+        for position in (0, 2000, 4060):
+            state.position = position
+            state.clock = TOP - 20
+            cases.set_state(state)
+            for _ in range(36):
+                report = 1 if model.who(cases.state, cases.table)[1] and dice.one_in(2) else 0
+                cases.step(next_reading(cases.state), report)
+            cases.log_check()
+        assert cases.state.position == 4096
+        cases.step(next_reading(cases.state), 0)
+        cases.set_state(state)
+        cases.lend_log(65535)  # one byte short
+        cases.step(next_reading(state), 0)
+        cases.log_check()
+
+
+# Microseconds
+
+
+def conversions(cases, dice):
+    ends = [0, 1, 2, 3, 499, 500, 501, 1000, 65535, 65536, 2 ** 31 - 1, 2 ** 31, 2 ** 31 + 1]
+    ends += [TOP - 2, TOP - 1, TOP]
+    for kind in (0, 1):
+        for microseconds in ends:
+            for slice_length in ends:
+                cases.conversion(kind, microseconds, slice_length)
+        for _ in range(250):
+            slice_length = 1 + dice.below(dice.pick([10, 1000, 2 ** 20, TOP]))
+            whole = dice.below(TOP // slice_length + 1) * slice_length
+            for microseconds in (whole, min(whole + 1, TOP), max(whole, 1) - 1):
+                cases.conversion(kind, microseconds, slice_length)
+
+
+def all_cases():
+    dice, cases = Dice(SEED), Cases()
+    conversions(cases, dice)
+    tables, accepted = [], []
+    for tasks, supply in bound_lists():
+        answer = list_and_builds(cases, dice, tasks, supply)
+        if dice.one_in(2):
+            refused_start(cases, dice, answer)
+    for tasks, supply in random_lists(dice):
+        answer = list_and_builds(cases, dice, tasks, supply)
+        if dice.one_in(4):
+            refused_start(cases, dice, answer)
+        if answer.refusal == 0 and answer.cycle < 100:
+            accepted.append([task._replace(memory=0) for task in tasks])
+            run_in_modes(cases, dice, answer.cycle, tables)
+        elif answer.refusal == 0 and answer.cycle < 1000 and dice.one_in(3):
+            run(cases, dice, dice.below(3), True)
+    damaged_runs(cases, dice, accepted)
+    made_up_runs(cases, dice)
+    full_size(cases, dice)
+    while cases.counts["step", 0] < STEPS_WANTED:
+        tasks = random_tasks(dice, dice.pick(SMALL), dice.between(1, 16), dice.between(40, 100))
+        tasks, supply = with_memory(dice, tasks)
+        if model.verdict(tasks, supply).refusal == 0:
+            answer = list_and_builds(cases, dice, tasks, supply)
+            run_in_modes(cases, dice, answer.cycle, tables)
+    cases.end()
+    assert all_there(cases)
+    return cases
+
+
+def all_there(cases):
+    """Nothing the file is meant to hold is missing from it."""
+    for what, refusals in (
+        ("list", range(8)), ("build", range(9)), ("start", (0, 1, 2, 3, 4, 5, 6, 7, 12)),
+        ("step", (0, 9, 10, 11, 12, 13, 14)), ("conversion", (0, 17)), ("log byte", (1, 2, 3)),
+        ("started in mode", (TABLE, FILLING, NONE_NAMED)), ("accepted in mode", (TABLE, FILLING)),
+    ):
+        for refusal in refusals:
+            assert cases.counts[what, refusal], (what, refusal)
+    return cases.counts["list"] >= 2000 and cases.counts["step"] >= 200000
+
+
+def report(cases):
+    print("%d bytes" % len(cases.out))
+    for what in ("list", "build", "start", "step", "conversion"):
+        parts = ["%d: %d" % (r, cases.counts[what, r]) for r in range(18) if cases.counts[what, r]]
+        print("%s: %d, by refusal (0 accepted) %s" % (what, cases.counts[what], ", ".join(parts)))
+    who_parts = ["%d: %d" % (r, cases.counts["who", r]) for r in (0, 9, 10, 11)]
+    print("who: by refusal " + ", ".join(who_parts))
+    print("runs started: table named %d, filling %d, none named %d" % tuple(
+        cases.counts["started in mode", mode] for mode in (TABLE, FILLING, NONE_NAMED)))
+    print("steps accepted by the table %d, filling %d" % tuple(
+        cases.counts["accepted in mode", mode] for mode in (TABLE, FILLING)))
+    print("log bytes written: done %d, over %d, late %d" % tuple(
+        cases.counts["log byte", byte] for byte in (1, 2, 3)))
+    print("states handed in %d, log checks %d" % (cases.counts["state"], cases.counts["log check"]))
+
+
+def main(arguments):
+    if len(arguments) == 2 and arguments[0] == "--check":
+        with open(arguments[1], "rb") as file:
+            kept = file.read()
+        made = bytes(all_cases().out)
+        if made != kept:
+            both = min(len(made), len(kept))
+            at = next((j for j in range(both) if made[j] != kept[j]), both)
+            print("differs from byte %d on" % at)
+            return 1
+        print("the same %d bytes" % len(made))
+        return 0
+    if len(arguments) != 1 or arguments[0].startswith("-"):
+        print(__doc__)
+        return 2
+    cases = all_cases()
+    with open(arguments[0], "wb") as file:
+        file.write(cases.out)
+    report(cases)
+    return 0
+
+
+if __name__ == "__main__":
+    sys.exit(main(sys.argv[1:]))
