@@ -1,5 +1,9 @@
--- The verdict on a task list and its table, as the paper gives them.
+-- The verdict on a task list and its table: the paper's definitions (Lateness, Margin, Verdict, Table), the laws of lateness, and the simulation.
 pub mod Lateness
 pub mod Margin
 pub mod Verdict
 pub mod Table
+pub mod Deadlines
+pub mod Ends
+pub mod Shapes
+pub mod Simulation

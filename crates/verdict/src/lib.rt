@@ -26,6 +26,18 @@ pub struct Late {
     pub short: u32,
 }
 
+// What a task's current job has had, and the slice after the last one that its first job got.
+struct Job {
+    had: u32,
+    end: u32,
+}
+
+// The slice rule run over a list up to some slice: the jobs, and the earliest missed deadline.
+struct Sim {
+    jobs: [Job; 16],
+    late: Late,
+}
+
 // The verdict on a list.
 pub fn judge(list: TaskList, supply: u32) -> Verdict
     ensures { λ r. ⌜ r ≡ verdictOf list supply ⌝ }

@@ -1,0 +1,1 @@
+-- The end of a task's first job, as the slice rule comes to it slice by slice.
