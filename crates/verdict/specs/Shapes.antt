@@ -1,7 +1,7 @@
 -- Shaped like the code, for private contracts alone: the slice rule run over a list, slice by slice. Simulation ties it to the plan's definitions.
 use mathlib.Core.Bool.{Bool, true, false, _||_, _&&_}
 use mathlib.Core.List.{List}
-use Prim.Native.Nat.{ℕ, zero, suc, _-_, _%_}
+use Prim.Native.Nat.{ℕ, zero, suc, _-_, _%_, _≤_, _<_}
 use lib.Dec.{ltb, eqb}
 use lib.IntN.{pos, subℕ}
 use lib.ListN.{getD, set, replicate}
@@ -10,7 +10,10 @@ use Rattle.basis.specs.Bytes.{overwrite}
 use Rattle.plan.specs.Plan.{first, ranksBefore}
 use Rattle.tasks.specs.declared.Task.{Task}
 use Rattle.tasks.specs.declared.TaskList.{TaskList}
+use Rattle.tasks.specs.declared.Bounds.{Bounds}
+use Rattle.tasks.specs.declared.Bounds.the-variants.{Kept, Broken}
 use Rattle.tasks.specs.List.{taskAt}
+use Rattle.tasks.specs.Kept.{KeepsBounds}
 use Rattle.verdict.specs.declared.Job.{Job}
 use Rattle.verdict.specs.declared.Sim.{Sim}
 use Rattle.verdict.specs.declared.Late.{Late}
@@ -18,11 +21,21 @@ use Rattle.verdict.specs.declared.Verdict.{Verdict}
 use Rattle.verdict.specs.declared.Verdict.the-variants.{Accepted, Refused}
 use Rattle.verdict.specs.Lateness.{lateBy, earlier}
 
+-- The list keeps all bounds, of memory with some supply.
+pub record Bounded (l : TaskList) : Type 0 where
+  pub supply : ℕ
+  pub keeps : KeepsBounds l supply
+
 unfoldable pub noJob : Job
 noJob = record { had = 0; end = 0 }
 
 unfoldable pub jobAt : List Job → ℕ → Job
 jobAt jobs i = getD jobs i noJob
+
+-- No job has had more than its run-time, and no end is after the period.
+pub record Within (l : TaskList) (jobs : List Job) : Type 0 where
+  pub had-to : (i : ℕ) → i < l .count → jobAt jobs i .had ≤ taskAt (l .tasks) i .runtime
+  pub end-to : (i : ℕ) → i < l .count → jobAt jobs i .end ≤ taskAt (l .tasks) i .period
 
 -- ---- which task
 -- slice t is the last of a job
@@ -92,3 +105,7 @@ judgedBy l cycle jobs sim =
     choose (eqb (sim .late .task) 0)
     (Accepted cycle jobs (suc (tightestOf l (sim .jobs))) (pos (marginIn l (sim .jobs) (tightestOf l (sim .jobs)))))
     (Refused 7 (sim .late .task) (subℕ 0 (sim .late .short)))
+
+unfoldable pub verdictBy : TaskList → Bounds → Verdict
+verdictBy l (Broken number task) = Refused number task (pos 0)
+verdictBy l (Kept cycle jobs) = judgedBy l cycle jobs (simOf l cycle)
