@@ -1,7 +1,17 @@
 // The verdict on a task list, and its table.
 ghost use mathlib.Core.Path.{_≡_};
+ghost use mathlib.Core.Bool.{Bool, true, false, _||_, _&&_};
+ghost use Prim.Native.Nat.{_+_, _-_, _≤_, _<_};
+ghost use lib.Dec.{ltb, eqb};
+ghost use Rattle.basis.specs.Choose.{choose};
+ghost use Rattle.plan.specs.Plan.{firstOf};
+ghost use Rattle.tasks.specs.Bounds.{cycleOf};
+ghost use Rattle.verdict.specs.Lateness.{earlier};
 ghost use Rattle.verdict.specs.Verdict.{verdictOf};
 ghost use Rattle.verdict.specs.Table.{Built};
+ghost use Rattle.verdict.specs.Shapes.{Bounded, Within, closes, lackOf, lackIn, periodIn, scanOf, gave, giveOf, turned, turnOf, missedOf, simOf, tightestOf, judgedBy};
+use tasks::Bounds;
+use tasks::Task;
 use tasks::TaskList;
 
 // The verdict: accepted with the cycle, the job count, the tightest task and its margin; or refused by number, with the task
@@ -38,6 +48,169 @@ struct Sim {
     late: Late,
 }
 
+// Whether slice t is the last of a job.
+fn is_last(period: u32, t: u32) -> bool
+    requires { ⌜ (0 < period) × (period ≤ 4096) ⌝ }
+    ensures { λ r. ⌜ r ≡ closes period t ⌝ }
+{
+    t % period + 1 == period
+}
+
+// What a job lacks of its run-time. If only deadlines at the end of slice t count, 0 for the others.
+fn lack(task: Task, job: Job, closing: bool, t: u32) -> u32
+    requires { ⌜ (0 < task .period) × (task .period ≤ 4096) × (job .had ≤ task .runtime) ⌝ }
+    ensures { λ r. ⌜ r ≡ lackOf closing t task job ⌝ }
+{
+    let open = task.runtime - job.had;
+    if closing {
+        if is_last(task.period, t) { open } else { 0 }
+    } else {
+        open
+    }
+}
+
+// The entry of the first-ranking task so far, and after it the task at a place that lacks so much.
+fn first_of(list: TaskList, lack: u32, place: usize, entry: usize) -> usize
+    requires { ⌜ (place < 16) × (entry ≤ 16) ⌝ }
+    ensures { λ r. ⌜ r ≡ firstOf (periodIn list) lack place entry ⌝ }
+{
+    if lack == 0 {
+        return entry;
+    }
+    if entry == 0 {
+        return place + 1;
+    }
+    let tasks = list.tasks;
+    let next = tasks[place];
+    let best = tasks[entry - 1];
+    if next.period < best.period { place + 1 } else { entry }
+}
+
+// The entry of the first-ranking task whose job lacks something.
+fn scan(list: TaskList, jobs: [Job; 16], closing: bool, t: u32) -> usize
+    requires { ⌜ Bounded list × Within list jobs ⌝ }
+    ensures { λ r. ⌜ r ≡ scanOf list jobs closing t ⌝ }
+{
+    let tasks = list.tasks;
+    let count = list.count;
+    let mut entry = 0;
+    let mut i = 0;
+    while i < count {
+        let next = first_of(list, lack(tasks[i], jobs[i], closing, t), i, entry);
+        entry = next;
+        i += 1;
+    }
+    entry
+}
+
+// The job that gets slice t.
+fn got(job: Job, period: u32, t: u32) -> Job
+    requires { ⌜ (job .had ≤ 4096) × (t < 4096) ⌝ }
+    ensures { λ r. ⌜ r ≡ gave period t job ⌝ }
+{
+    let had = job.had + 1;
+    if t < period {
+        Job { had, end: t + 1 }
+    } else {
+        Job { had, end: job.end }
+    }
+}
+
+fn give(list: TaskList, jobs: [Job; 16], entry: usize, t: u32) -> [Job; 16]
+    requires { ⌜ Bounded list × Within list jobs × (entry ≤ list .count) × (t < 4096) ⌝ }
+    ensures { λ r. ⌜ r ≡ giveOf list jobs t entry ⌝ }
+{
+    if entry == 0 {
+        return jobs;
+    }
+    let tasks = list.tasks;
+    let task = tasks[entry - 1];
+    let next = got(jobs[entry - 1], task.period, t);
+    let mut after = jobs;
+    after[entry - 1] = next;
+    after
+}
+
+// The job after slice t, or the fresh one where it was its last.
+fn turn_one(job: Job, period: u32, t: u32) -> Job
+    requires { ⌜ (0 < period) × (period ≤ 4096) ⌝ }
+    ensures { λ r. ⌜ r ≡ turned period t job ⌝ }
+{
+    if is_last(period, t) {
+        Job { had: 0, end: job.end }
+    } else {
+        job
+    }
+}
+
+fn turn(list: TaskList, jobs: [Job; 16], t: u32) -> [Job; 16]
+    requires { ⌜ Bounded list ⌝ }
+    ensures { λ r. ⌜ r ≡ turnOf list jobs t ⌝ }
+{
+    let tasks = list.tasks;
+    let count = list.count;
+    let mut after = jobs;
+    let mut i = 0;
+    while i < count {
+        let task = tasks[i];
+        let next = turn_one(after[i], task.period, t);
+        after[i] = next;
+        i += 1;
+    }
+    after
+}
+
+// The first-ranking task that misses a deadline at the end of slice t.
+fn missed(list: TaskList, jobs: [Job; 16], t: u32) -> Late
+    requires { ⌜ Bounded list × Within list jobs ⌝ }
+    ensures { λ r. ⌜ r ≡ missedOf list jobs t ⌝ }
+{
+    let entry = scan(list, jobs, true, t);
+    if entry == 0 {
+        return Late { task: 0, short: 0 };
+    }
+    let tasks = list.tasks;
+    Late {
+        task: entry,
+        short: lack(tasks[entry - 1], jobs[entry - 1], true, t),
+    }
+}
+
+fn earlier_of(late: Late, next: Late) -> Late
+    ensures { λ r. ⌜ r ≡ earlier late next ⌝ }
+{
+    if late.task == 0 { next } else { late }
+}
+
+// Slice t closes: it goes to a task, deadlines at its end are looked at, and fresh jobs begin.
+fn close(list: TaskList, sim: Sim, t: u32) -> Sim
+    requires { ⌜ Bounded list × (sim ≡ simOf list t) × (t < 4096) ⌝ }
+    ensures { λ r. ⌜ r ≡ simOf list (t + 1) ⌝ }
+{
+    let jobs = sim.jobs;
+    let late = sim.late;
+    let after = give(list, jobs, scan(list, jobs, false, t), t);
+    let next = earlier_of(late, missed(list, after, t));
+    let fresh = turn(list, after, t);
+    Sim { jobs: fresh, late: next }
+}
+
+fn simulate(list: TaskList, cycle: u32) -> Sim
+    requires { ⌜ Bounded list × (cycle ≤ 4096) ⌝ }
+    ensures { λ r. ⌜ r ≡ simOf list cycle ⌝ }
+{
+    let mut sim = Sim {
+        jobs: [Job { had: 0, end: 0 }; 16],
+        late: Late { task: 0, short: 0 },
+    };
+    let mut t = 0;
+    while t < cycle {
+        let next = close(list, sim, t);
+        sim = next;
+        t += 1;
+    }
+    sim
+}
 // The verdict on a list.
 pub fn judge(list: TaskList, supply: u32) -> Verdict
     ensures { λ r. ⌜ r ≡ verdictOf list supply ⌝ }

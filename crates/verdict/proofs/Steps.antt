@@ -1,0 +1,72 @@
+-- The ways of a branch and the turns of a loop, as laws over plain values.
+use mathlib.Core.Path.{_≡_, refl, sym, ap, ap₂, _∙_}
+use mathlib.Core.List.{List}
+use mathlib.Core.Logic.{⊎-elim}
+use Prim.Native.Nat.{ℕ, zero, suc, _+_, _-_, _≤_, _<_}
+use native.Mathlib.Omega.{arith}
+use native.Mathlib.Numerals.{add-one}
+use lib.ListN.{set}
+use borrow.Author.Tests.{lt-ltb, le-ltb}
+use Rattle.basis.specs.Choose.{choose-yes, choose-no}
+use Rattle.basis.specs.Bytes.{overwrite, overwrite-from}
+use Rattle.plan.specs.Plan.{IsFirst, NoneWants, FirstTask, firstOf, first}
+use Rattle.plan.specs.Rank.{first-law}
+use Rattle.tasks.specs.declared.TaskList.{TaskList}
+use Rattle.verdict.specs.declared.Job.{Job}
+use Rattle.verdict.specs.declared.Late.{Late}
+use Rattle.verdict.specs.Lateness.{lateBy}
+use Rattle.verdict.specs.Shapes.{noJob, jobAt, periodIn, gave, giveOf, turned}
+
+less-one : (i : ℕ) → suc i - 1 ≡ i
+less-one i = omega arith
+
+-- ---- the first-ranking task so far against one more
+module _ (key : ℕ → ℕ) (n : ℕ) where
+  pub first-past : (w e : ℕ) → w ≡ 0 → e ≡ firstOf key w n e
+  unfolding firstOf
+  first-past w e z = rw z
+
+  pub first-alone : (w e : ℕ) → (w ≡ 0 → ⊥) → e ≡ 0 → n + 1 ≡ firstOf key w n e
+  unfolding firstOf
+  first-alone zero e nz z = absurd (nz refl)
+  first-alone (suc w) e nz z = rw z (add-one n)
+
+  pub first-ahead : (w e : ℕ) → (w ≡ 0 → ⊥) → (e ≡ 0 → ⊥) → key n < key (e - 1) → n + 1 ≡ firstOf key w n e
+  unfolding firstOf
+  first-ahead zero e nz ne l = absurd (nz refl)
+  first-ahead (suc w) zero nz ne l = absurd (ne refl)
+  first-ahead (suc w) (suc i) nz ne l = add-one n ∙ sym (choose-yes _ _ _ (lt-ltb (key n) (key i) (rw less-one at l)))
+
+  pub first-behind : (w e : ℕ) → (w ≡ 0 → ⊥) → (e ≡ 0 → ⊥) → key (e - 1) ≤ key n → e ≡ firstOf key w n e
+  unfolding firstOf
+  first-behind zero e nz ne l = absurd (nz refl)
+  first-behind (suc w) zero nz ne l = absurd (ne refl)
+  first-behind (suc w) (suc i) nz ne l = sym (choose-no _ _ _ (le-ltb (key n) (key i) (rw less-one at l)))
+
+pub first-within : (key wants : ℕ → ℕ) (n e : ℕ) → e ≡ first key wants n → e ≤ n
+unfolding IsFirst
+first-within key wants n e q = ⊎-elim (λ (h : NoneWants _ _ _). omega arith) (λ (h : FirstTask _ _ _ _). omega arith) (first-law key wants n)
+
+pub one-more-first : (key wants : ℕ → ℕ) (i e w r : ℕ) → e ≡ first key wants i → w ≡ wants i → r ≡ firstOf key w i e → r ≡ first key wants (i + 1)
+unfolding first
+one-more-first key wants i e w r ee ew er = rw add-one (er ∙ ap₂ (λ (x y : ℕ). firstOf key x i y) ew ee)
+
+-- ---- an entry that is a task's
+pub give-at : (l : TaskList) (jobs : List Job) (t e : ℕ) (g : Job) → (e ≡ 0 → ⊥) → g ≡ gave (periodIn l (e - 1)) t (jobAt jobs (e - 1)) → set jobs (e - 1) g ≡ giveOf l jobs t e
+unfolding giveOf
+give-at l jobs t zero g ne q = absurd (ne refl)
+give-at l jobs t (suc i) g ne q = ap (set jobs (suc i - 1)) q ∙ ap (λ (j : ℕ). set jobs j (gave (periodIn l j) t (jobAt jobs j))) (less-one i)
+
+pub late-at : (f : ℕ → ℕ) (e x : ℕ) → (e ≡ 0 → ⊥) → x ≡ f (e - 1) → record { task = e; short = x } ≡ lateBy f e
+unfolding lateBy
+late-at f zero x ne q = absurd (ne refl)
+late-at f (suc i) x ne q = ap (λ (s : ℕ). record { task = suc i; short = s }) (q ∙ ap f (less-one i))
+
+-- ---- fresh jobs, place by place
+pub one-more-turned : (period : ℕ → ℕ) (t i : ℕ) (old now : List Job) (g : Job) → now ≡ overwrite (λ (j : ℕ). turned (period j) t (jobAt old j)) i old
+    → g ≡ turned (period i) t (jobAt now i) → set now i g ≡ overwrite (λ (j : ℕ). turned (period j) t (jobAt old j)) (i + 1) old
+unfolding overwrite jobAt
+one-more-turned period t i old now g e q =
+    rw add-one
+    (ap₂ (λ (js : List Job) (x : Job). set js i x) e
+    (q ∙ ap (turned (period i) t) (ap (λ (js : List Job). jobAt js i) e ∙ overwrite-from _ old noJob i i (omega arith))))
