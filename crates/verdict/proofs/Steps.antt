@@ -1,5 +1,6 @@
 -- The ways of a branch and the turns of a loop, as laws over plain values.
 use mathlib.Core.Path.{_≡_, refl, sym, ap, ap₂, _∙_}
+use mathlib.Core.Bool.{Bool, true, false}
 use mathlib.Core.List.{List}
 use mathlib.Core.Logic.{⊎-elim}
 use Prim.Native.Nat.{ℕ, zero, suc, _+_, _-_, _≤_, _<_}
@@ -14,8 +15,10 @@ use Rattle.plan.specs.Rank.{first-law}
 use Rattle.tasks.specs.declared.TaskList.{TaskList}
 use Rattle.verdict.specs.declared.Job.{Job}
 use Rattle.verdict.specs.declared.Late.{Late}
-use Rattle.verdict.specs.Lateness.{lateBy}
-use Rattle.verdict.specs.Shapes.{noJob, jobAt, periodIn, gave, giveOf, turned}
+use Rattle.verdict.specs.declared.Sim.{Sim}
+use Rattle.verdict.specs.Lateness.{lateBy, earlier}
+use Rattle.verdict.specs.Shapes.{Bounded, Within, noJob, jobAt, lackIn, periodIn, scanOf, gave, giveOf, turned, turnOf, missedOf, afterOf, closeOf, simOf}
+use Rattle.verdict.specs.Simulation.{sim-within, after-within}
 
 less-one : (i : ℕ) → suc i - 1 ≡ i
 less-one i = omega arith
@@ -57,10 +60,24 @@ unfolding giveOf
 give-at l jobs t zero g ne q = absurd (ne refl)
 give-at l jobs t (suc i) g ne q = ap (set jobs (suc i - 1)) q ∙ ap (λ (j : ℕ). set jobs j (gave (periodIn l j) t (jobAt jobs j))) (less-one i)
 
-pub late-at : (f : ℕ → ℕ) (e x : ℕ) → (e ≡ 0 → ⊥) → x ≡ f (e - 1) → record { task = e; short = x } ≡ lateBy f e
+late-at : (f : ℕ → ℕ) (e x : ℕ) → (e ≡ 0 → ⊥) → x ≡ f (e - 1) → record { task = e; short = x } ≡ lateBy f e
 unfolding lateBy
 late-at f zero x ne q = absurd (ne refl)
 late-at f (suc i) x ne q = ap (λ (s : ℕ). record { task = suc i; short = s }) (q ∙ ap f (less-one i))
+
+-- ---- the task that misses a deadline
+module _ (l : TaskList) (jobs : List Job) (t e : ℕ) where
+  pub scan-within : (closing : Bool) → e ≡ scanOf l jobs closing t → e ≤ l .count
+  unfolding scanOf
+  scan-within closing q = first-within _ _ _ _ q
+
+  pub missed-none : e ≡ scanOf l jobs true t → e ≡ 0 → record { task = 0; short = 0 } ≡ missedOf l jobs t
+  unfolding missedOf lateBy
+  missed-none q z = rw (← q, z)
+
+  pub missed-some : (x : ℕ) → e ≡ scanOf l jobs true t → (e ≡ 0 → ⊥) → x ≡ lackIn l jobs true t (e - 1) → record { task = e; short = x } ≡ missedOf l jobs t
+  unfolding missedOf
+  missed-some x q ne qx = rw (← q) (late-at _ e x ne qx)
 
 -- ---- fresh jobs, place by place
 pub one-more-turned : (period : ℕ → ℕ) (t i : ℕ) (old now : List Job) (g : Job) → now ≡ overwrite (λ (j : ℕ). turned (period j) t (jobAt old j)) i old
@@ -70,3 +87,23 @@ one-more-turned period t i old now g e q =
     rw add-one
     (ap₂ (λ (js : List Job) (x : Job). set js i x) e
     (q ∙ ap (turned (period i) t) (ap (λ (js : List Job). jobAt js i) e ∙ overwrite-from _ old noJob i i (omega arith))))
+
+-- ---- a slice closes
+module _ (l : TaskList) (B : Bounded l) (sim : Sim) (t : ℕ) (at : sim ≡ simOf l t) where
+  pub jobs-within : Within l (sim .jobs)
+  jobs-within = rw at (sim-within l B t)
+
+  module _ (e : ℕ) (after : List Job) (qe : e ≡ scanOf l (sim .jobs) false t) (qa : after ≡ giveOf l (sim .jobs) t e) where
+    after-is : after ≡ afterOf l (sim .jobs) t
+    unfolding afterOf
+    after-is = qa ∙ ap (giveOf l (sim .jobs) t) qe
+
+    pub jobs-after : Within l after
+    jobs-after = rw (after-is, at) (after-within l B t)
+
+    pub closed : (m next : Late) (fresh : List Job) → m ≡ missedOf l after t → next ≡ earlier (sim .late) m → fresh ≡ turnOf l after t
+        → record { jobs = fresh; late = next; entry = e } ≡ simOf l (t + 1)
+    unfolding simOf closeOf
+    closed m next fresh qm qn qf =
+        let this : record { jobs = fresh; late = next; entry = e } ≡ closeOf l sim t = cc after-is in
+        rw add-one (this ∙ ap (λ (s : Sim). closeOf l s t) at)

@@ -72,18 +72,20 @@ turnOf l jobs t = overwrite (λ i. turned (periodIn l i) t (jobAt jobs i)) (l .c
 unfoldable pub missedOf : TaskList → List Job → ℕ → Late
 missedOf l jobs t = lateBy (lackIn l jobs true t) (scanOf l jobs true t)
 
--- the jobs after slice t, and once those that end there have given way to fresh ones; and with that what is late so far
+-- the jobs after slice t
 unfoldable pub afterOf : TaskList → List Job → ℕ → List Job
 afterOf l jobs t = giveOf l jobs t (scanOf l jobs false t)
 
-unfoldable pub closedBy : TaskList → Late → List Job → ℕ → Sim
-closedBy l late after t = record { jobs = turnOf l after t; late = earlier late (missedOf l after t) }
-
 unfoldable pub closeOf : TaskList → Sim → ℕ → Sim
-closeOf l sim t = closedBy l (sim .late) (afterOf l (sim .jobs) t) t
+closeOf l sim t =
+    record {
+      jobs = turnOf l (afterOf l (sim .jobs) t) t;
+      late = earlier (sim .late) (missedOf l (afterOf l (sim .jobs) t) t);
+      entry = scanOf l (sim .jobs) false t;
+    }
 
 unfoldable pub simOf : TaskList → ℕ → Sim
-simOf l zero = record { jobs = replicate 16 noJob; late = record { task = 0; short = 0 } }
+simOf l zero = record { jobs = replicate 16 noJob; late = record { task = 0; short = 0 }; entry = 0 }
 simOf l (suc t) = closeOf l (simOf l t) t
 
 -- ---- the tightest task

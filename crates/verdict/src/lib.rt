@@ -4,7 +4,10 @@ ghost use mathlib.Core.Bool.{Bool, true, false, _||_, _&&_};
 ghost use Prim.Native.Nat.{_+_, _-_, _≤_, _<_};
 ghost use lib.Dec.{ltb, eqb};
 ghost use Rattle.basis.specs.Choose.{choose};
-ghost use Rattle.plan.specs.Plan.{firstOf};
+ghost use Rattle.basis.specs.Bytes.{overwrite};
+ghost use Rattle.plan.specs.Plan.{firstOf, table as slices};
+ghost use Rattle.tasks.specs.List.{planOf};
+ghost use lib.ListN.{length};
 ghost use Rattle.tasks.specs.Bounds.{cycleOf};
 ghost use Rattle.verdict.specs.Lateness.{earlier};
 ghost use Rattle.verdict.specs.Verdict.{verdictOf};
@@ -42,10 +45,11 @@ struct Job {
     end: u32,
 }
 
-// The slice rule run over a list up to some slice: the jobs, and the earliest missed deadline.
+// The slice rule run over a list up to some slice: the jobs, the earliest missed deadline, and the last entry.
 struct Sim {
     jobs: [Job; 16],
     late: Late,
+    entry: usize,
 }
 
 // Whether slice t is the last of a job.
@@ -189,10 +193,15 @@ fn close(list: TaskList, sim: Sim, t: u32) -> Sim
 {
     let jobs = sim.jobs;
     let late = sim.late;
-    let after = give(list, jobs, scan(list, jobs, false, t), t);
+    let entry = scan(list, jobs, false, t);
+    let after = give(list, jobs, entry, t);
     let next = earlier_of(late, missed(list, after, t));
     let fresh = turn(list, after, t);
-    Sim { jobs: fresh, late: next }
+    Sim {
+        jobs: fresh,
+        late: next,
+        entry,
+    }
 }
 
 fn simulate(list: TaskList, cycle: u32) -> Sim
@@ -202,6 +211,7 @@ fn simulate(list: TaskList, cycle: u32) -> Sim
     let mut sim = Sim {
         jobs: [Job { had: 0, end: 0 }; 16],
         late: Late { task: 0, short: 0 },
+        entry: 0,
     };
     let mut t = 0;
     while t < cycle {
@@ -211,14 +221,100 @@ fn simulate(list: TaskList, cycle: u32) -> Sim
     }
     sim
 }
+
+// The place of the tighter of two tasks: the smaller margin, then the shorter period, then the earlier one, which is `best`.
+fn tighter_of(margin: u32, period: u32, place: usize, best_margin: u32, best_period: u32, best: usize) -> usize
+    ensures { λ r. ⌜ r ≡ choose (ltb margin «best_margin» || (eqb margin «best_margin» && ltb period «best_period»)) place best ⌝ }
+{
+    if margin < best_margin {
+        return place;
+    }
+    if margin != best_margin {
+        return best;
+    }
+    if period < best_period { place } else { best }
+}
+
+// The place of the tightest task.
+fn tightest_of(list: TaskList, jobs: [Job; 16]) -> usize
+    requires { ⌜ Bounded list × Within list jobs ⌝ }
+    ensures { λ r. ⌜ r ≡ tightestOf list jobs ⌝ }
+{
+    let tasks = list.tasks;
+    let count = list.count;
+    let mut best = 0;
+    let mut i = 1;
+    while i < count {
+        let task = tasks[i];
+        let job = jobs[i];
+        let other = tasks[best];
+        let held = jobs[best];
+        let next = tighter_of(task.period - job.end, task.period, i, other.period - held.end, other.period, best);
+        best = next;
+        i += 1;
+    }
+    best
+}
+
+// A list that keeps all bounds is refused for lateness, or accepted.
+fn decide(list: TaskList, cycle: u32, jobs: u32) -> Verdict
+    requires { ⌜ Bounded list × (cycle ≡ cycleOf list) ⌝ }
+    ensures { λ r. ⌜ r ≡ judgedBy list cycle jobs (simOf list cycle) ⌝ }
+{
+    let sim = simulate(list, cycle);
+    let late = sim.late;
+    let held = sim.jobs;
+    if late.task != 0 {
+        let short = late.short as i32;
+        return Verdict::Refused {
+            number: 7,
+            task: late.task,
+            margin: 0 - short,
+        };
+    }
+    let best = tightest_of(list, held);
+    let tasks = list.tasks;
+    let task = tasks[best];
+    let job = held[best];
+    let margin = task.period - job.end;
+    Verdict::Accepted {
+        cycle,
+        jobs,
+        task: best + 1,
+        margin: margin as i32,
+    }
+}
+
 // The verdict on a list.
 pub fn judge(list: TaskList, supply: u32) -> Verdict
     ensures { λ r. ⌜ r ≡ verdictOf list supply ⌝ }
 {
-    Verdict::Refused {
-        number: 0,
-        task: 0,
-        margin: 0,
+    match tasks::check_bounds(list, supply) {
+        Bounds::Broken { number, task } => Verdict::Refused {
+            number,
+            task,
+            margin: 0,
+        },
+        Bounds::Kept { cycle, jobs } => decide(list, cycle, jobs),
+    }
+}
+
+// The first entries of a table.
+fn write_entries(list: TaskList, cycle: u32, table: &mut [u8])
+    requires { ⌜ Bounded list × (cycle ≤ 4096) × (cycle ≤ length (now table)) ⌝ }
+    ensures { λ r. ⌜ now (table .exit) ≡ overwrite (slices (planOf list)) cycle (now (table .entry)) ⌝ }
+{
+    let mut sim = Sim {
+        jobs: [Job { had: 0, end: 0 }; 16],
+        late: Late { task: 0, short: 0 },
+        entry: 0,
+    };
+    let mut t = 0;
+    while t < cycle {
+        let next = close(list, sim, t);
+        table[t as usize] = next.entry as u8;
+        sim = next;
+        t += 1;
     }
 }
 
@@ -226,9 +322,17 @@ pub fn judge(list: TaskList, supply: u32) -> Verdict
 pub fn build(list: TaskList, supply: u32, table: &mut [u8]) -> Verdict
     ensures { λ r. ⌜ Built list supply (now (table .entry)) (now (table .exit)) r ⌝ }
 {
-    Verdict::Refused {
-        number: 0,
-        task: 0,
-        margin: 0,
+    let verdict = judge(list, supply);
+    let Verdict::Accepted { cycle, jobs, task, margin } = verdict else {
+        return verdict;
+    };
+    if table.len() < cycle as usize {
+        return Verdict::Refused {
+            number: 8,
+            task: 0,
+            margin: 0,
+        };
     }
+    write_entries(list, cycle, table);
+    verdict
 }

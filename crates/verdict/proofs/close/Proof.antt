@@ -1,37 +1,32 @@
+-- `verdict::close` meets its contract.
 use borrow.Author.Needs.{needs}
+use Rattle.verdict.proofs.Steps.{scan-within, jobs-within, jobs-after, closed}
 use Rattle.verdict.proofs.close.Statement.{statement}
 use Rattle.verdict.proofs.close.Tie as tie
-use Rattle.verdict.proofs.close.Reads as reads
-use Rattle.verdict.proofs.close.Lts as lts
-use Rattle.verdict.proofs.earlier_of.Reads as earlier-of-reads
-use Rattle.verdict.proofs.give.Reads as give-reads
-use Rattle.verdict.proofs.missed.Reads as missed-reads
-use Rattle.verdict.proofs.scan.Reads as scan-reads
-use Rattle.verdict.proofs.turn.Reads as turn-reads
 
--- src/lib.rt:192:34
 scan-requires : tie.Need-scan-requires
-scan-requires c κs = ?
+scan-requires c κs = (c .before .before .pre .0, jobs-within _ (c .before .before .pre .0) _ _ (c .before .before .pre .1))
 
--- src/lib.rt:192:9
 give-requires : tie.Need-give-requires
-give-requires c κs = ?
+give-requires c κs =
+    let P = c .before .before .before .pre in
+    (P .0, jobs-within _ (P .0) _ _ (P .1), scan-within _ _ _ _ _ (c .scan .ensures), P .2)
 
--- src/lib.rt:193:33
 missed-requires : tie.Need-missed-requires
-missed-requires c κs = ?
+missed-requires c κs =
+    let P = c .before .before .before .before .pre in
+    (P .0, jobs-after _ (P .0) _ _ (P .1) _ _ (c .before .scan .ensures) (c .give .ensures))
 
--- src/lib.rt:193:9
 earlier-of-requires : tie.Need-earlier-of-requires
 earlier-of-requires c κs = search needs
 
--- src/lib.rt:194:9
 turn-requires : tie.Need-turn-requires
 turn-requires c κs = search needs
 
--- src/lib.rt:186:1
 returns : tie.Need-returns
-returns c = ?
+returns c =
+    let P = c .before .before .before .before .before .before .before .pre in
+    closed _ (P .0) _ _ (P .1) _ _ (c .before .before .before .before .scan .ensures) (c .before .before .before .give .ensures) _ _ _ (c .before .before .missed .ensures) (c .before .earlier-of .ensures) (c .turn .ensures)
 
 pub close-spec : {M : Type 1} → statement M
 close-spec =

@@ -1,50 +1,57 @@
+-- `verdict::missed` meets its contract.
+use Prim.Native.Nat.{_-_, _<_}
+use native.Mathlib.Omega.{arith}
 use borrow.Author.Needs.{needs}
+use Rattle.tasks.specs.List.{taskAt, noTask}
+use Rattle.verdict.specs.Shapes.{noJob, jobAt, lackIn}
+use Rattle.verdict.proofs.Steps.{scan-within, missed-none, missed-some}
 use Rattle.verdict.proofs.missed.Statement.{statement}
 use Rattle.verdict.proofs.missed.Tie as tie
-use Rattle.verdict.proofs.missed.Reads as reads
-use Rattle.verdict.proofs.missed.Lts as lts
-use Rattle.verdict.proofs.lack.Reads as lack-reads
-use Rattle.verdict.proofs.scan.Reads as scan-reads
 
--- src/lib.rt:168:9
 scan-requires : tie.Need-scan-requires
 scan-requires c κs = search needs
 
--- src/lib.rt:170:9
 returns : tie.Need-returns
-returns c = ?
+returns c = missed-none _ _ _ _ (c .before .scan .ensures) (c .if1 .taken)
 
--- src/lib.rt:175:27
 sub-lack : tie.Need-sub-lack
 sub-lack c = search needs
 
--- src/lib.rt:175:21
 mul-lack : tie.Need-mul-lack
-mul-lack c = ?
+mul-lack c =
+    let within = scan-within _ _ _ _ _ (c .before .before .scan .ensures) in
+    omega (arith, c .before .before .before .pre .0 .keeps .few)
 
--- src/lib.rt:175:21
 array-copy-out-lack : tie.Need-array-copy-out-lack
-array-copy-out-lack c = ?
+array-copy-out-lack c =
+    let within = scan-within _ _ _ _ _ (c .before .before .scan .ensures) in
+    omega (arith, c .before .before .before .pre .0 .keeps .few)
 
--- src/lib.rt:175:44
 sub-lack-2 : tie.Need-sub-lack-2
 sub-lack-2 c = search needs
 
--- src/lib.rt:175:39
 mul-lack-2 : tie.Need-mul-lack-2
-mul-lack-2 c = ?
+mul-lack-2 c =
+    let within = scan-within _ _ _ _ _ (c .before .before .before .scan .ensures) in
+    omega (arith, c .before .before .before .before .pre .0 .keeps .few)
 
--- src/lib.rt:175:39
 array-copy-out-lack-2 : tie.Need-array-copy-out-lack-2
-array-copy-out-lack-2 c = ?
+array-copy-out-lack-2 c =
+    let within = scan-within _ _ _ _ _ (c .before .before .before .scan .ensures) in
+    omega (arith, c .before .before .before .before .pre .0 .keeps .few)
 
--- src/lib.rt:175:16
 lack-requires : tie.Need-lack-requires
-lack-requires c κs = ?
+unfolding taskAt noTask jobAt noJob
+lack-requires c κs =
+    let P = c .before .before .before .before .before .pre in
+    let within = scan-within _ _ _ _ _ (c .before .before .before .before .scan .ensures) in
+    let i : c .before .before .before .before .scan .result - 1 < c .before .before .before .before .before .args .list .count = omega arith in
+    (P .0 .keeps .fits _ i .period-from, P .0 .keeps .fits _ i .period-to, P .1 .had-to _ i)
 
--- src/lib.rt:164:1
 returns-2 : tie.Need-returns-2
-returns-2 c = ?
+unfolding lackIn taskAt noTask jobAt noJob
+returns-2 c =
+    missed-some _ _ _ _ _ (c .before .before .before .before .before .scan .ensures) (c .before .before .before .before .if1 .left) (c .lack .ensures)
 
 pub missed-spec : {M : Type 1} → statement M
 missed-spec =

@@ -1,38 +1,39 @@
+-- `verdict::simulate` meets its contract.
+use Prim.Native.Nat.{_≤_, _-_}
+use mathlib.Core.Path.{_≡_, refl}
+use native.Mathlib.Omega.{arith}
+use Rattle.verdict.specs.Shapes.{noJob, simOf}
 use Rattle.verdict.proofs.simulate.Statement.{statement}
 use Rattle.verdict.proofs.simulate.Tie as tie
-use Rattle.verdict.proofs.simulate.Reads as reads
-use Rattle.verdict.proofs.simulate.Lts as lts
-use Rattle.verdict.proofs.close.Reads as close-reads
 
 abbrev Inv-loop : tie.InvT-loop
-Inv-loop list cycle sim₀ t₀ sim t = ?
+Inv-loop list cycle sim₀ t₀ sim t =
+    (t ≤ cycle) × (sim ≡ simOf list t)
 
 abbrev μ-loop : tie.MeasureT-loop
-μ-loop list cycle sim₀ t₀ sim t = ?
+μ-loop list cycle sim₀ t₀ sim t =
+    cycle - t
 
--- src/lib.rt:207:5
 loop-holds : tie.Need-loop-holds Inv-loop μ-loop
-loop-holds c = ?
+unfolding simOf noJob
+loop-holds c = (omega arith, refl)
 
--- src/lib.rt:208:13
 close-requires : tie.Need-close-requires Inv-loop μ-loop
-close-requires c κs = ?
+close-requires c κs = (c .before .before .pre .0, c .before .loop .inv .1, omega (arith, c .before .before .pre .1))
 
--- src/lib.rt:210:9
 add-t : tie.Need-add-t Inv-loop μ-loop
-add-t c = ?
+add-t c = omega (arith, c .before .before .before .pre .1)
 
--- src/lib.rt:207:5
 loop-less : tie.Need-loop-less Inv-loop μ-loop
-loop-less c = ?
+loop-less c = omega arith
 
--- src/lib.rt:207:5
 loop-again : tie.Need-loop-again Inv-loop μ-loop
-loop-again c = ?
+loop-again c = (omega arith, c .close .ensures)
 
--- src/lib.rt:198:1
 returns : tie.Need-returns Inv-loop μ-loop
-returns c = ?
+returns c =
+    let end : c .before .loop .t ≡ c .before .before .args .cycle = omega arith in
+    rw end at (c .before .loop .inv .1)
 
 pub simulate-spec : {M : Type 1} → statement M
 simulate-spec =
