@@ -27,7 +27,7 @@ module _ (key : ℕ → ℕ) where
   unfolding ranksBefore
   equal-keys-by-place i j e = rw (le-ltb (key i) (key j) (omega arith), eq-eqb (key i) (key j) e)
 
-  later-place-later : (i j : ℕ) → key j ≤ key i → j ≤ i → ranksBefore key i j ≡ false
+  pub later-place-later : (i j : ℕ) → key j ≤ key i → j ≤ i → ranksBefore key i j ≡ false
   later-place-later i j l lj =
       ⊎-elim
       (λ (e : key i ≡ key j). equal-keys-by-place i j e ∙ le-ltb i j lj)

@@ -7,17 +7,17 @@ use Prim.Native.Nat.{ℕ, zero, suc, _+_, _-_, _≤_, _<_}
 use native.Mathlib.Omega.{arith}
 use native.Mathlib.Numerals.{add-one}
 use lib.ListN.{set}
-use borrow.Author.Tests.{lt-ltb, le-ltb}
-use Rattle.basis.specs.Choose.{choose-yes, choose-no}
+use borrow.Author.Tests.{lt-ltb, le-ltb, eq-eqb, ne-eqb}
+use Rattle.basis.specs.Choose.{choose, choose-yes, choose-no}
 use Rattle.basis.specs.Bytes.{overwrite, overwrite-from}
-use Rattle.plan.specs.Plan.{IsFirst, NoneWants, FirstTask, firstOf, first}
-use Rattle.plan.specs.Rank.{first-law}
+use Rattle.plan.specs.Plan.{IsFirst, NoneWants, FirstTask, firstOf, first, ranksBefore}
+use Rattle.plan.specs.Rank.{first-law, later-place-later}
 use Rattle.tasks.specs.declared.TaskList.{TaskList}
 use Rattle.verdict.specs.declared.Job.{Job}
 use Rattle.verdict.specs.declared.Late.{Late}
 use Rattle.verdict.specs.declared.Sim.{Sim}
 use Rattle.verdict.specs.Lateness.{lateBy, earlier}
-use Rattle.verdict.specs.Shapes.{Bounded, Within, noJob, jobAt, lackIn, periodIn, scanOf, gave, giveOf, turned, turnOf, missedOf, afterOf, closeOf, simOf}
+use Rattle.verdict.specs.Shapes.{Bounded, Within, noJob, jobAt, lackIn, periodIn, scanOf, gave, giveOf, turned, turnOf, missedOf, afterOf, closeOf, simOf, tighterBy, tightestBy}
 use Rattle.verdict.specs.Simulation.{sim-within, after-within}
 
 less-one : (i : ℕ) → suc i - 1 ≡ i
@@ -87,6 +87,34 @@ one-more-turned period t i old now g e q =
     rw add-one
     (ap₂ (λ (js : List Job) (x : Job). set js i x) e
     (q ∙ ap (turned (period i) t) (ap (λ (js : List Job). jobAt js i) e ∙ overwrite-from _ old noJob i i (omega arith))))
+
+-- ---- the tighter of two tasks, of which the second is the earlier
+module _ (margin key : ℕ → ℕ) (i best : ℕ) (earlier-place : best < i) where
+  module _ (a b : ℕ) (qa : a ≡ margin i) (qb : b ≡ margin best) where
+    pub tighter-smaller : a < b → i ≡ choose (tighterBy margin key i best) i best
+    unfolding tighterBy choose
+    tighter-smaller l = rw (lt-ltb (margin i) (margin best) (omega arith))
+
+    pub tighter-larger : b ≤ a → (a ≡ b → ⊥) → best ≡ choose (tighterBy margin key i best) i best
+    unfolding tighterBy choose
+    tighter-larger l ne = rw (le-ltb (margin i) (margin best) (omega arith), ne-eqb (margin i) (margin best) (λ e. ne (omega arith)))
+
+    pub tighter-first : a ≡ b → key i < key best → i ≡ choose (tighterBy margin key i best) i best
+    unfolding tighterBy ranksBefore choose
+    tighter-first e l = rw (le-ltb (margin i) (margin best) (omega arith), eq-eqb (margin i) (margin best) (omega arith), lt-ltb (key i) (key best) l)
+
+    pub tighter-later : a ≡ b → key best ≤ key i → best ≡ choose (tighterBy margin key i best) i best
+    unfolding tighterBy choose
+    tighter-later e l = rw (le-ltb (margin i) (margin best) (omega arith), eq-eqb (margin i) (margin best) (omega arith), later-place-later key i best l (omega arith))
+
+module _ (margin key : ℕ → ℕ) where
+  pub tightest-first : 0 ≡ tightestBy margin key 1
+  unfolding tightestBy choose
+  tightest-first = refl
+
+  pub one-more-tightest : (i best r : ℕ) → 1 ≤ i → best ≡ tightestBy margin key i → r ≡ choose (tighterBy margin key i best) i best → r ≡ tightestBy margin key (i + 1)
+  unfolding tightestBy
+  one-more-tightest i best r p qb qr = rw (add-one, ← qb, ne-eqb i 0 (λ z. omega arith)) qr
 
 -- ---- a slice closes
 module _ (l : TaskList) (B : Bounded l) (sim : Sim) (t : ℕ) (at : sim ≡ simOf l t) where

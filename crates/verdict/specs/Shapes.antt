@@ -42,15 +42,15 @@ pub record Within (l : TaskList) (jobs : List Job) : Type 0 where
 unfoldable pub closes : ℕ → ℕ → Bool
 closes period t = eqb (suc (t % period)) period
 
--- what a job lacks of its run-time; if only deadlines at the end of slice t count, 0 for the others
-unfoldable pub lackOf : Bool → ℕ → Task → Job → ℕ
-lackOf closing t task job = choose closing (choose (closes (task .period) t) (task .runtime - job .had) 0) (task .runtime - job .had)
-
-unfoldable pub lackIn : TaskList → List Job → Bool → ℕ → ℕ → ℕ
-lackIn l jobs closing t i = lackOf closing t (taskAt (l .tasks) i) (jobAt jobs i)
-
 unfoldable pub periodIn : TaskList → ℕ → ℕ
 periodIn l i = taskAt (l .tasks) i .period
+
+-- what the job of task i lacks of its run-time; if only deadlines at the end of slice t count, 0 for the others
+unfoldable pub openIn : TaskList → List Job → ℕ → ℕ
+openIn l jobs i = taskAt (l .tasks) i .runtime - jobAt jobs i .had
+
+unfoldable pub lackIn : TaskList → List Job → Bool → ℕ → ℕ → ℕ
+lackIn l jobs closing t i = choose closing (choose (closes (periodIn l i) t) (openIn l jobs i) 0) (openIn l jobs i)
 
 unfoldable pub scanOf : TaskList → List Job → Bool → ℕ → ℕ
 scanOf l jobs closing t = first (periodIn l) (lackIn l jobs closing t) (l .count)

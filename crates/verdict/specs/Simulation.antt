@@ -34,7 +34,7 @@ use Rattle.verdict.specs.Verdict.{judged, verdictFrom, verdictOf}
 use Rattle.verdict.specs.Lateness.{received, missing, missedAt, lateBy, earlier, lateness}
 use Rattle.verdict.specs.Deadlines.{missed-lacks, nothing-late, late-tells}
 use Rattle.verdict.specs.Ends.{endBy, end-none, end-got, end-kept, end-shut, end-is-first, end-within}
-use Rattle.verdict.specs.Shapes.{Bounded, Within, noJob, jobAt, closes, lackOf, lackIn, periodIn, scanOf, gave, giveOf, turned, turnOf, missedOf, afterOf, closeOf, simOf, marginIn, tighterBy, tightestBy, tightestOf, judgedBy, verdictBy}
+use Rattle.verdict.specs.Shapes.{Bounded, Within, noJob, jobAt, closes, openIn, lackIn, periodIn, scanOf, gave, giveOf, turned, turnOf, missedOf, afterOf, closeOf, simOf, marginIn, tighterBy, tightestBy, tightestOf, judgedBy, verdictBy}
 
 -- Of each task the current job has had h i slices, and the first job got its last one before slice e i.
 pub record Holds (l : TaskList) (h e : ℕ → ℕ) (jobs : List Job) : Type 0 where
@@ -74,13 +74,13 @@ module _ (l : TaskList) (B : Bounded l) where
   module _ (t : ℕ) (jobs : List Job) where
     -- ---- which task
     pub pick-is : {e : ℕ → ℕ} → Holds l (had P (P .runtime) t) e jobs → scanOf l jobs false t ≡ table P t
-    unfolding scanOf lackIn lackOf choose periodIn table entry pick keyIn planOf lacks
+    unfolding scanOf lackIn openIn choose periodIn table entry pick keyIn planOf lacks
     pick-is h =
         first-ext _ _ _ _ (l .count) (λ i li. refl)
         (λ i li. ap (λ (x : ℕ). P .runtime i 0 - x) (h .had-is i li) ∙ sym (lacks-open P (P .runtime) (P .runtime) t i (age-below P sound i li t)))
 
     lack-is : {e : ℕ → ℕ} → Holds l (received P t) e jobs → (i : ℕ) → i < l .count → lackIn l jobs true t i ≡ missing P t i
-    unfolding lackIn lackOf choose missing closes age planOf
+    unfolding lackIn openIn choose missing closes periodIn age planOf
     lack-is h i li = ap (λ (x : ℕ). choose (eqb (suc (age P i t)) (P .due i)) (P .runtime i 0 - x) 0) (h .had-is i li)
 
     scan-is : {e : ℕ → ℕ} → Holds l (received P t) e jobs → scanOf l jobs true t ≡ missedAt P t

@@ -1,8 +1,6 @@
 // The verdict on a task list, and its table.
 ghost use mathlib.Core.Path.{_≡_};
-ghost use mathlib.Core.Bool.{Bool, true, false, _||_, _&&_};
 ghost use Prim.Native.Nat.{_+_, _-_, _≤_, _<_};
-ghost use lib.Dec.{ltb, eqb};
 ghost use Rattle.basis.specs.Choose.{choose};
 ghost use Rattle.basis.specs.Bytes.{overwrite};
 ghost use Rattle.plan.specs.Plan.{firstOf, table as slices};
@@ -12,9 +10,8 @@ ghost use Rattle.tasks.specs.Bounds.{cycleOf};
 ghost use Rattle.verdict.specs.Lateness.{earlier};
 ghost use Rattle.verdict.specs.Verdict.{verdictOf};
 ghost use Rattle.verdict.specs.Table.{Built};
-ghost use Rattle.verdict.specs.Shapes.{Bounded, Within, closes, lackOf, lackIn, periodIn, scanOf, gave, giveOf, turned, turnOf, missedOf, simOf, tightestOf, judgedBy};
+ghost use Rattle.verdict.specs.Shapes.{Bounded, Within, closes, lackIn, periodIn, scanOf, gave, giveOf, turned, turnOf, missedOf, simOf, marginIn, tighterBy, tightestOf, judgedBy};
 use tasks::Bounds;
-use tasks::Task;
 use tasks::TaskList;
 
 // The verdict: accepted with the cycle, the job count, the tightest task and its margin; or refused by number, with the task
@@ -60,11 +57,14 @@ fn is_last(period: u32, t: u32) -> bool
     t % period + 1 == period
 }
 
-// What a job lacks of its run-time. If only deadlines at the end of slice t count, 0 for the others.
-fn lack(task: Task, job: Job, closing: bool, t: u32) -> u32
-    requires { ⌜ (0 < task .period) × (task .period ≤ 4096) × (job .had ≤ task .runtime) ⌝ }
-    ensures { λ r. ⌜ r ≡ lackOf closing t task job ⌝ }
+// What the job of the task at place i lacks of its run-time. If only deadlines at the end of slice t count, 0 for the others.
+fn lack(list: TaskList, jobs: [Job; 16], closing: bool, t: u32, i: usize) -> u32
+    requires { ⌜ Bounded list × Within list jobs × (i < list .count) ⌝ }
+    ensures { λ r. ⌜ r ≡ lackIn list jobs closing t i ⌝ }
 {
+    let tasks = list.tasks;
+    let task = tasks[i];
+    let job = jobs[i];
     let open = task.runtime - job.had;
     if closing {
         if is_last(task.period, t) { open } else { 0 }
@@ -95,12 +95,11 @@ fn scan(list: TaskList, jobs: [Job; 16], closing: bool, t: u32) -> usize
     requires { ⌜ Bounded list × Within list jobs ⌝ }
     ensures { λ r. ⌜ r ≡ scanOf list jobs closing t ⌝ }
 {
-    let tasks = list.tasks;
     let count = list.count;
     let mut entry = 0;
     let mut i = 0;
     while i < count {
-        let next = first_of(list, lack(tasks[i], jobs[i], closing, t), i, entry);
+        let next = first_of(list, lack(list, jobs, closing, t, i), i, entry);
         entry = next;
         i += 1;
     }
@@ -173,10 +172,9 @@ fn missed(list: TaskList, jobs: [Job; 16], t: u32) -> Late
     if entry == 0 {
         return Late { task: 0, short: 0 };
     }
-    let tasks = list.tasks;
     Late {
         task: entry,
-        short: lack(tasks[entry - 1], jobs[entry - 1], true, t),
+        short: lack(list, jobs, true, t, entry - 1),
     }
 }
 
@@ -222,17 +220,34 @@ fn simulate(list: TaskList, cycle: u32) -> Sim
     sim
 }
 
-// The place of the tighter of two tasks: the smaller margin, then the shorter period, then the earlier one, which is `best`.
-fn tighter_of(margin: u32, period: u32, place: usize, best_margin: u32, best_period: u32, best: usize) -> usize
-    ensures { λ r. ⌜ r ≡ choose (ltb margin «best_margin» || (eqb margin «best_margin» && ltb period «best_period»)) place best ⌝ }
+// The margin of the task at place i: its period less the recorded end.
+fn margin_of(list: TaskList, jobs: [Job; 16], i: usize) -> u32
+    requires { ⌜ Bounded list × Within list jobs × (i < list .count) ⌝ }
+    ensures { λ r. ⌜ r ≡ marginIn list jobs i ⌝ }
 {
-    if margin < best_margin {
-        return place;
+    let tasks = list.tasks;
+    let task = tasks[i];
+    let job = jobs[i];
+    task.period - job.end
+}
+
+// The place of the tighter of two tasks, of which `best` is the earlier: the smaller margin, then the first-ranking one.
+fn tighter_of(list: TaskList, jobs: [Job; 16], i: usize, best: usize) -> usize
+    requires { ⌜ Bounded list × Within list jobs × (i < list .count) × (best < i) ⌝ }
+    ensures { λ r. ⌜ r ≡ choose (tighterBy (marginIn list jobs) (periodIn list) i best) i best ⌝ }
+{
+    let margin = margin_of(list, jobs, i);
+    let smallest = margin_of(list, jobs, best);
+    if margin < smallest {
+        return i;
     }
-    if margin != best_margin {
+    if margin != smallest {
         return best;
     }
-    if period < best_period { place } else { best }
+    let tasks = list.tasks;
+    let next = tasks[i];
+    let other = tasks[best];
+    if next.period < other.period { i } else { best }
 }
 
 // The place of the tightest task.
@@ -240,16 +255,11 @@ fn tightest_of(list: TaskList, jobs: [Job; 16]) -> usize
     requires { ⌜ Bounded list × Within list jobs ⌝ }
     ensures { λ r. ⌜ r ≡ tightestOf list jobs ⌝ }
 {
-    let tasks = list.tasks;
     let count = list.count;
     let mut best = 0;
     let mut i = 1;
     while i < count {
-        let task = tasks[i];
-        let job = jobs[i];
-        let other = tasks[best];
-        let held = jobs[best];
-        let next = tighter_of(task.period - job.end, task.period, i, other.period - held.end, other.period, best);
+        let next = tighter_of(list, jobs, i, best);
         best = next;
         i += 1;
     }
@@ -273,10 +283,7 @@ fn decide(list: TaskList, cycle: u32, jobs: u32) -> Verdict
         };
     }
     let best = tightest_of(list, held);
-    let tasks = list.tasks;
-    let task = tasks[best];
-    let job = held[best];
-    let margin = task.period - job.end;
+    let margin = margin_of(list, held, best);
     Verdict::Accepted {
         cycle,
         jobs,

@@ -3,8 +3,7 @@ use Prim.Native.Nat.{_≤_, _-_}
 use mathlib.Core.Path.{_≡_, refl}
 use native.Mathlib.Omega.{arith}
 use Rattle.plan.specs.Plan.{first}
-use Rattle.tasks.specs.List.{taskAt, noTask}
-use Rattle.verdict.specs.Shapes.{noJob, jobAt, lackIn, periodIn, scanOf}
+use Rattle.verdict.specs.Shapes.{lackIn, periodIn, scanOf}
 use Rattle.verdict.proofs.Steps.{first-within, one-more-first}
 use Rattle.verdict.proofs.scan.Statement.{statement}
 use Rattle.verdict.proofs.scan.Tie as tie
@@ -14,57 +13,40 @@ use Rattle.verdict.proofs.first_of.Reads as first-of-reads
 use Rattle.verdict.proofs.lack.Reads as lack-reads
 
 abbrev Inv-loop : tie.InvT-loop
-Inv-loop list closing t jobs tasks count entry₀ i₀ entry i =
+Inv-loop list jobs closing t count entry₀ i₀ entry i =
     (i ≤ count) × (entry ≡ first (periodIn list) (lackIn list jobs closing t) i)
 
 abbrev μ-loop : tie.MeasureT-loop
-μ-loop list closing t jobs tasks count entry₀ i₀ entry i =
+μ-loop list jobs closing t count entry₀ i₀ entry i =
     count - i
 
 loop-holds : tie.Need-loop-holds Inv-loop μ-loop
 unfolding first
 loop-holds c = (omega arith, refl)
 
-mul-lack : tie.Need-mul-lack Inv-loop μ-loop
-mul-lack c = omega (arith, c .before .before .before .pre .0 .keeps .few)
-
-array-copy-out-lack : tie.Need-array-copy-out-lack Inv-loop μ-loop
-array-copy-out-lack c = omega (arith, c .before .before .before .pre .0 .keeps .few)
-
-mul-lack-2 : tie.Need-mul-lack-2 Inv-loop μ-loop
-mul-lack-2 c = omega (arith, c .before .before .before .before .pre .0 .keeps .few)
-
-array-copy-out-lack-2 : tie.Need-array-copy-out-lack-2 Inv-loop μ-loop
-array-copy-out-lack-2 c = omega (arith, c .before .before .before .before .pre .0 .keeps .few)
-
 lack-requires : tie.Need-lack-requires Inv-loop μ-loop
-unfolding taskAt noTask jobAt noJob
-lack-requires c κs =
-    let P = c .before .before .before .before .before .pre in
-    let i = c .before .before .loop-test .taken in
-    (P .0 .keeps .fits _ i .period-from, P .0 .keeps .fits _ i .period-to, P .1 .had-to _ i)
+lack-requires c κs = (c .before .before .pre .0, c .before .before .pre .1, c .loop-test .taken)
 
 first-of-requires : tie.Need-first-of-requires Inv-loop μ-loop
 first-of-requires c κs =
-    let few = c .before .before .before .before .before .before .pre .0 .keeps .few in
-    let within = first-within _ _ _ _ (c .before .before .before .before .loop .inv .1) in
+    let few = c .before .before .before .pre .0 .keeps .few in
+    let within = first-within _ _ _ _ (c .before .before .loop .inv .1) in
     (omega arith, omega arith)
 
 add-i : tie.Need-add-i Inv-loop μ-loop
-add-i c = omega arith
+add-i c = omega (arith, c .before .before .before .before .pre .0 .keeps .few)
 
 loop-less : tie.Need-loop-less Inv-loop μ-loop
 loop-less c = omega arith
 
 loop-again : tie.Need-loop-again Inv-loop μ-loop
-unfolding lackIn taskAt noTask jobAt noJob
 loop-again c =
-    (omega arith, one-more-first _ _ _ _ _ _ (c .before .before .before .before .before .loop .inv .1) (c .before .lack .ensures) (c .first-of .ensures))
+    (omega arith, one-more-first _ _ _ _ _ _ (c .before .before .before .loop .inv .1) (c .before .lack .ensures) (c .first-of .ensures))
 
 returns : tie.Need-returns Inv-loop μ-loop
 unfolding scanOf
 returns c =
-    let end : c .before .loop .i ≡ c .before .before .before .args .list .count = omega arith in
+    let end : c .before .loop .i ≡ c .before .before .args .list .count = omega arith in
     rw end at (c .before .loop .inv .1)
 
 pub scan-spec : {M : Type 1} → statement M
@@ -74,10 +56,6 @@ scan-spec =
     Inv-loop
     μ-loop
     loop-holds
-    mul-lack
-    array-copy-out-lack
-    mul-lack-2
-    array-copy-out-lack-2
     lack-requires
     first-of-requires
     add-i
