@@ -4,6 +4,7 @@ pub mod Margin
 pub mod Verdict
 pub mod Table
 pub mod Deadlines
+pub mod Answers
 pub mod Ends
 pub mod Shapes
 pub mod Simulation

@@ -84,8 +84,11 @@ closeOf l sim t =
       entry = scanOf l (sim .jobs) false t;
     }
 
+unfoldable pub beginning : Sim
+beginning = record { jobs = replicate 16 noJob; late = record { task = 0; short = 0 }; entry = 0 }
+
 unfoldable pub simOf : TaskList → ℕ → Sim
-simOf l zero = record { jobs = replicate 16 noJob; late = record { task = 0; short = 0 }; entry = 0 }
+simOf l zero = beginning
 simOf l (suc t) = closeOf l (simOf l t) t
 
 -- ---- the tightest task

@@ -34,7 +34,7 @@ use Rattle.verdict.specs.Verdict.{judged, verdictFrom, verdictOf}
 use Rattle.verdict.specs.Lateness.{received, missing, missedAt, lateBy, earlier, lateness}
 use Rattle.verdict.specs.Deadlines.{missed-lacks, nothing-late, late-tells}
 use Rattle.verdict.specs.Ends.{endBy, end-none, end-got, end-kept, end-shut, end-is-first, end-within}
-use Rattle.verdict.specs.Shapes.{Bounded, Within, noJob, jobAt, closes, openIn, lackIn, periodIn, scanOf, gave, giveOf, turned, turnOf, missedOf, afterOf, closeOf, simOf, marginIn, tighterBy, tightestBy, tightestOf, judgedBy, verdictBy}
+use Rattle.verdict.specs.Shapes.{Bounded, Within, noJob, jobAt, closes, openIn, lackIn, periodIn, scanOf, gave, giveOf, turned, turnOf, missedOf, afterOf, closeOf, beginning, simOf, marginIn, tighterBy, tightestBy, tightestOf, judgedBy, verdictBy}
 
 -- Of each task the current job has had h i slices, and the first job got its last one before slice e i.
 pub record Holds (l : TaskList) (h e : ℕ → ℕ) (jobs : List Job) : Type 0 where
@@ -174,7 +174,7 @@ module _ (l : TaskList) (B : Bounded l) where
   after-holds t jobs h = give-holds t jobs (scanOf l jobs false t) (pick-is t jobs h) h
 
   pub sim-holds : (t : ℕ) → Holds l (had P (P .runtime) t) (endBy P t) (simOf l t .jobs)
-  unfolding simOf closeOf jobAt noJob
+  unfolding simOf beginning closeOf jobAt noJob
   sim-holds zero = record {
     places = length-replicate 16 noJob;
     had-is = λ i li. ap (λ (j : Job). j .had) (none i li) ∙ sym (had-first P (P .runtime) i);
@@ -186,7 +186,7 @@ module _ (l : TaskList) (B : Bounded l) where
   sim-holds (suc t) = turn-holds t (afterOf l (simOf l t .jobs) t) (after-holds t (simOf l t .jobs) (sim-holds t))
 
   pub late-is : (t : ℕ) → simOf l t .late ≡ lateness P t
-  unfolding simOf closeOf lateness
+  unfolding simOf beginning closeOf lateness
   late-is zero = refl
   late-is (suc t) = ap₂ earlier (late-is t) (missed-is t (afterOf l (simOf l t .jobs) t) (after-holds t (simOf l t .jobs) (sim-holds t)))
 

@@ -10,7 +10,7 @@ ghost use Rattle.tasks.specs.Bounds.{cycleOf};
 ghost use Rattle.verdict.specs.Lateness.{earlier};
 ghost use Rattle.verdict.specs.Verdict.{verdictOf};
 ghost use Rattle.verdict.specs.Table.{Built};
-ghost use Rattle.verdict.specs.Shapes.{Bounded, Within, closes, lackIn, periodIn, scanOf, gave, giveOf, turned, turnOf, missedOf, simOf, marginIn, tighterBy, tightestOf, judgedBy};
+ghost use Rattle.verdict.specs.Shapes.{Bounded, Within, closes, lackIn, periodIn, scanOf, gave, giveOf, turned, turnOf, missedOf, beginning, simOf, marginIn, tighterBy, tightestOf, judgedBy};
 use tasks::Bounds;
 use tasks::TaskList;
 
@@ -202,15 +202,21 @@ fn close(list: TaskList, sim: Sim, t: u32) -> Sim
     }
 }
 
+fn begin() -> Sim
+    ensures { λ r. ⌜ r ≡ beginning ⌝ }
+{
+    Sim {
+        jobs: [Job { had: 0, end: 0 }; 16],
+        late: Late { task: 0, short: 0 },
+        entry: 0,
+    }
+}
+
 fn simulate(list: TaskList, cycle: u32) -> Sim
     requires { ⌜ Bounded list × (cycle ≤ 4096) ⌝ }
     ensures { λ r. ⌜ r ≡ simOf list cycle ⌝ }
 {
-    let mut sim = Sim {
-        jobs: [Job { had: 0, end: 0 }; 16],
-        late: Late { task: 0, short: 0 },
-        entry: 0,
-    };
+    let mut sim = begin();
     let mut t = 0;
     while t < cycle {
         let next = close(list, sim, t);
@@ -311,11 +317,7 @@ fn write_entries(list: TaskList, cycle: u32, table: &mut [u8])
     requires { ⌜ Bounded list × (cycle ≤ 4096) × (cycle ≤ length (now table)) ⌝ }
     ensures { λ r. ⌜ now (table .exit) ≡ overwrite (slices (planOf list)) cycle (now (table .entry)) ⌝ }
 {
-    let mut sim = Sim {
-        jobs: [Job { had: 0, end: 0 }; 16],
-        late: Late { task: 0, short: 0 },
-        entry: 0,
-    };
+    let mut sim = begin();
     let mut t = 0;
     while t < cycle {
         let next = close(list, sim, t);

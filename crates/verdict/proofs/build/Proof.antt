@@ -1,3 +1,7 @@
+-- `verdict::build` meets its contract.
+use mathlib.Core.Path.{sym, _∙_}
+use native.Mathlib.Omega.{arith}
+use Rattle.verdict.proofs.Answers.{accepted-bounded, built-refused, built-short, built-whole}
 use borrow.Author.Needs.{needs}
 use Rattle.verdict.proofs.build.Statement.{statement}
 use Rattle.verdict.proofs.build.Tie as tie
@@ -6,41 +10,36 @@ use Rattle.verdict.proofs.build.Lts as lts
 use Rattle.verdict.proofs.judge.Reads as judge-reads
 use Rattle.verdict.proofs.write_entries.Reads as write-entries-reads
 
--- src/lib.rt:332:9
 judge-requires : tie.Need-judge-requires
 judge-requires c κs = search needs
 
--- src/lib.rt:333:29
 enum-known-verdict : tie.Need-enum-known-verdict
 enum-known-verdict c = search needs
 
--- src/lib.rt:334:9
 enum-told : tie.Need-enum-told
 enum-told c = search needs
 
--- src/lib.rt:334:9
 returns : tie.Need-returns
-returns c = ?
+returns c = built-refused _ _ _ _ (c .before .before .judge .ensures) _ _ _ (c .enum-told .given .1)
 
--- src/lib.rt:336:22
 cast-if1 : tie.Need-cast-if1
 cast-if1 c = search needs
 
--- src/lib.rt:337:9
 returns-2 : tie.Need-returns-2
-returns-2 c = ?
+returns-2 c =
+    built-short _ _ _ _ (c .before .before .before .before .judge .ensures) _ _ _ _ (c .before .before .verdict .given .1) (c .if1 .taken)
 
--- src/lib.rt:343:5
 write-entries-requires : tie.Need-write-entries-requires
-write-entries-requires c κs = ?
+write-entries-requires c κs =
+    let k = accepted-bounded _ _ _ _ _ _ (sym (c .before .before .before .before .before .judge .ensures) ∙ c .before .before .before .verdict .given .1) in
+    (k .0, omega (arith, k .0 .keeps .cycle-within), c .before .if1 .left)
 
--- src/lib.rt:329:1
 same-length : tie.Need-same-length
 same-length c = search needs
 
--- src/lib.rt:329:1
 returns-3 : tie.Need-returns-3
-returns-3 c = ?
+returns-3 c =
+    built-whole _ _ _ _ (c .before .before .before .before .before .before .before .before .judge .ensures) _ _ _ _ (c .before .before .before .before .before .before .verdict .given .1) _ (c .before .before .before .before .if1 .left) (c .before .before .write-entries .ensures)
 
 pub build-spec : {M : Type 1} → statement M
 build-spec =

@@ -1,3 +1,7 @@
+-- `verdict::decide` meets its contract.
+use native.Mathlib.Omega.{arith}
+use Rattle.verdict.proofs.Signed.{fits-signed, as-signed, fits-negative, as-negative}
+use Rattle.verdict.proofs.Answers.{ends-within, short-within, judged-late, best-below, margin-within, judged-accepted}
 use borrow.Author.Needs.{needs}
 use Rattle.verdict.proofs.decide.Statement.{statement}
 use Rattle.verdict.proofs.decide.Tie as tie
@@ -7,41 +11,49 @@ use Rattle.verdict.proofs.margin_of.Reads as margin-of-reads
 use Rattle.verdict.proofs.simulate.Reads as simulate-reads
 use Rattle.verdict.proofs.tightest_of.Reads as tightest-of-reads
 
--- src/lib.rt:274:9
 simulate-requires : tie.Need-simulate-requires
 simulate-requires c κs = search needs
 
--- src/lib.rt:278:21
 cast-short : tie.Need-cast-short
-cast-short c = ?
+cast-short c =
+    fits-signed _ (short-within _ (c .before .before .before .before .before .before .pre .0) _ _ (c .before .before .before .before .before .simulate .ensures) (c .before .if1 .taken))
 
--- src/lib.rt:282:21
 sub-t11 : tie.Need-sub-t11
-sub-t11 c = ?
+sub-t11 c =
+    fits-negative _ (short-within _ (c .before .before .before .before .before .before .pre .0) _ _ (c .before .before .before .before .before .simulate .ensures) (c .before .if1 .taken))
 
--- src/lib.rt:279:9
 returns : tie.Need-returns
-returns c = ?
+returns c =
+    let P = c .before .before .before .before .before .before .pre .0 in
+    let at = c .before .before .before .before .before .simulate .ensures in
+    judged-late _ P _ _ at _ _ (c .before .if1 .taken) (as-negative _ (short-within _ P _ _ at (c .before .if1 .taken)))
 
--- src/lib.rt:285:9
 tightest-of-requires : tie.Need-tightest-of-requires
-tightest-of-requires c κs = ?
+tightest-of-requires c κs =
+    (c .before .before .before .before .before .pre .0, ends-within _ (c .before .before .before .before .before .pre .0) _ _ (c .before .before .before .before .simulate .ensures))
 
--- src/lib.rt:286:9
 margin-of-requires : tie.Need-margin-of-requires
-margin-of-requires c κs = ?
+margin-of-requires c κs =
+    let P = c .before .before .before .before .before .before .pre .0 in
+    let at = c .before .before .before .before .before .simulate .ensures in
+    (P, ends-within _ P _ _ at, best-below _ P _ _ at _ (c .tightest-of .ensures))
 
--- src/lib.rt:290:15
 add-t12 : tie.Need-add-t12
-add-t12 c = ?
+add-t12 c =
+    let few = c .before .before .before .before .before .before .before .pre .0 .keeps .few in
+    let below = best-below _ (c .before .before .before .before .before .before .before .pre .0) _ _ (c .before .before .before .before .before .before .simulate .ensures) _ (c .before .tightest-of .ensures) in
+    omega arith
 
--- src/lib.rt:291:17
 cast-t13 : tie.Need-cast-t13
-cast-t13 c = ?
+cast-t13 c =
+    fits-signed _ (margin-within _ (c .before .before .before .before .before .before .before .pre .0) _ _ (c .before .before .before .before .before .before .simulate .ensures) _ (c .before .tightest-of .ensures) _ (c .margin-of .ensures))
 
--- src/lib.rt:270:1
 returns-2 : tie.Need-returns-2
-returns-2 c = ?
+returns-2 c =
+    let P = c .before .before .before .before .before .before .before .pre .0 in
+    let at = c .before .before .before .before .before .before .simulate .ensures in
+    let best = c .before .tightest-of .ensures in
+    judged-accepted _ P _ _ at _ best _ _ _ (c .before .before .if1 .left) (c .margin-of .ensures) (as-signed _ (margin-within _ P _ _ at _ best _ (c .margin-of .ensures)))
 
 pub decide-spec : {M : Type 1} → statement M
 decide-spec =

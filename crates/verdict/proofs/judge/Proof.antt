@@ -1,3 +1,7 @@
+-- `verdict::judge` meets its contract.
+use mathlib.Core.Path.{sym, _∙_}
+use Rattle.verdict.specs.Simulation.{kept-bounded}
+use Rattle.verdict.proofs.Answers.{judge-broken, judge-kept}
 use borrow.Author.Needs.{needs}
 use Rattle.verdict.proofs.judge.Statement.{statement}
 use Rattle.verdict.proofs.judge.Tie as tie
@@ -6,29 +10,24 @@ use Rattle.verdict.proofs.judge.Lts as lts
 use Rattle.tasks.proofs.check_bounds.Reads as check-bounds-reads
 use Rattle.verdict.proofs.decide.Reads as decide-reads
 
--- src/lib.rt:299:11
 check-bounds-requires : tie.Need-check-bounds-requires
 check-bounds-requires c κs = search needs
 
--- src/lib.rt:300:26
 enum-known-number : tie.Need-enum-known-number
 enum-known-number c = search needs
 
--- src/lib.rt:305:24
 enum-known-cycle : tie.Need-enum-known-cycle
 enum-known-cycle c = search needs
 
--- src/lib.rt:305:41
 decide-requires : tie.Need-decide-requires
-decide-requires c κs = ?
+decide-requires c κs = kept-bounded _ _ _ _ (sym (c .before .before .before .check-bounds .ensures) ∙ c .before .cycle .given .1)
 
--- src/lib.rt:296:1
 returns : tie.Need-returns
-returns c = ?
+returns c = judge-broken _ _ _ _ (sym (c .before .before .before .check-bounds .ensures) ∙ c .before .number .given .1)
 
--- src/lib.rt:296:1
 returns-2 : tie.Need-returns-2
-returns-2 c = ?
+returns-2 c =
+    judge-kept _ _ _ _ _ (sym (c .before .before .before .before .check-bounds .ensures) ∙ c .before .before .cycle .given .1) (c .decide .ensures)
 
 pub judge-spec : {M : Type 1} → statement M
 judge-spec =
