@@ -19,7 +19,7 @@ use Rattle.verdict.specs.declared.Verdict.the-variants.{Accepted}
 use Rattle.verdict.specs.Lateness.{lateBy, earlier}
 use Rattle.verdict.specs.Verdict.{verdictOf, Numbers, numbers}
 use Rattle.verdict.specs.Table.{tabled}
-use Rattle.verdict.specs.Shapes.{noJob, jobAt, closes, periodIn, openIn, lackIn, scanOf, gave, giveOf, turned, turnOf, missedOf, afterOf, closeOf, beginning, simOf, marginIn, tighterBy, tightestBy, tightestOf, judgedBy, verdictBy}
+use Rattle.verdict.specs.Shapes.{noJob, jobAt, closes, periodIn, openIn, lackIn, scanOf, gotOf, giveOf, turnedOf, turnOf, missedOf, afterOf, closeOf, beginning, simOf, marginIn, tighterBy, tightestBy, tightestOf, judgedBy, verdictBy}
 use Rattle.verdict.specs.Simulation.{entry-is, kept-bounded, verdict-is}
 use Rattle.starred.specs.Lists.{task, listed, verdict, entries, accepted, late, A, B, C, D, E, F, G, H, Starred}
 
@@ -42,7 +42,7 @@ entries-on ts n jobs task margin kept is =
     ∙ overwrite-same _ _ (replicate n 0) n (λ t lt. sym (entry-is (listed ts) (kept-bounded (listed ts) 0 n jobs kept .0) t))
 
 pub starred : Starred
-unfolding A B C D E F G H task listed accepted late verdictOn entriesOn numbers choose sum overwrite ranksBefore firstOf first noTask taskAt euclid gcdOf lcmOf multiple memorySum jobSum cycleOf jobsOf refusal none _orElse_ firstFound outside ofCount ofNumbers ofTask ofMemory ofCycle found answer boundsOf lateBy earlier noJob jobAt closes periodIn openIn lackIn scanOf gave giveOf turned turnOf missedOf afterOf closeOf beginning simOf marginIn tighterBy tightestBy tightestOf judgedBy verdictBy
+unfolding A B C D E F G H task listed accepted late verdictOn entriesOn numbers choose sum overwrite ranksBefore firstOf first noTask taskAt euclid gcdOf lcmOf multiple memorySum jobSum cycleOf jobsOf refusal none _orElse_ firstFound outside ofCount ofNumbers ofTask ofMemory ofCycle found answer boundsOf lateBy earlier noJob jobAt closes periodIn openIn lackIn scanOf gotOf giveOf turnedOf turnOf missedOf afterOf closeOf beginning simOf marginIn tighterBy tightestBy tightestOf judgedBy verdictBy
 starred = record {
   verdict-A = verdict-on A;
   table-A = entries-on A 12 6 3 (pos 2) refl refl;

@@ -17,7 +17,7 @@ use Rattle.verdict.specs.declared.Job.{Job}
 use Rattle.verdict.specs.declared.Late.{Late}
 use Rattle.verdict.specs.declared.Sim.{Sim}
 use Rattle.verdict.specs.Lateness.{lateBy, earlier}
-use Rattle.verdict.specs.Shapes.{Bounded, Within, noJob, jobAt, lackIn, periodIn, scanOf, gave, giveOf, turned, turnOf, missedOf, afterOf, closeOf, simOf, tighterBy, tightestBy}
+use Rattle.verdict.specs.Shapes.{Bounded, Within, noJob, jobAt, lackIn, periodIn, scanOf, gotOf, giveOf, turnedOf, turnOf, missedOf, afterOf, closeOf, simOf, tighterBy, tightestBy}
 use Rattle.verdict.specs.Simulation.{sim-within, after-within}
 
 less-one : (i : ℕ) → suc i - 1 ≡ i
@@ -55,10 +55,10 @@ unfolding first
 one-more-first key wants i e w r ee ew er = rw add-one (er ∙ ap₂ (λ (x y : ℕ). firstOf key x i y) ew ee)
 
 -- ---- an entry that is a task's
-pub give-at : (l : TaskList) (jobs : List Job) (t e : ℕ) (g : Job) → (e ≡ 0 → ⊥) → g ≡ gave (periodIn l (e - 1)) t (jobAt jobs (e - 1)) → set jobs (e - 1) g ≡ giveOf l jobs t e
+pub give-at : (l : TaskList) (jobs : List Job) (t e : ℕ) (g : Job) → (e ≡ 0 → ⊥) → g ≡ gotOf (periodIn l (e - 1)) t (jobAt jobs (e - 1)) → set jobs (e - 1) g ≡ giveOf l jobs t e
 unfolding giveOf
 give-at l jobs t zero g ne q = absurd (ne refl)
-give-at l jobs t (suc i) g ne q = ap (set jobs (suc i - 1)) q ∙ ap (λ (j : ℕ). set jobs j (gave (periodIn l j) t (jobAt jobs j))) (less-one i)
+give-at l jobs t (suc i) g ne q = ap (set jobs (suc i - 1)) q ∙ ap (λ (j : ℕ). set jobs j (gotOf (periodIn l j) t (jobAt jobs j))) (less-one i)
 
 late-at : (f : ℕ → ℕ) (e x : ℕ) → (e ≡ 0 → ⊥) → x ≡ f (e - 1) → record { task = e; short = x } ≡ lateBy f e
 unfolding lateBy
@@ -80,13 +80,13 @@ module _ (l : TaskList) (jobs : List Job) (t e : ℕ) where
   missed-some x q ne qx = rw (← q) (late-at _ e x ne qx)
 
 -- ---- fresh jobs, place by place
-pub one-more-turned : (period : ℕ → ℕ) (t i : ℕ) (old now : List Job) (g : Job) → now ≡ overwrite (λ (j : ℕ). turned (period j) t (jobAt old j)) i old
-    → g ≡ turned (period i) t (jobAt now i) → set now i g ≡ overwrite (λ (j : ℕ). turned (period j) t (jobAt old j)) (i + 1) old
+pub one-more-turned : (period : ℕ → ℕ) (t i : ℕ) (old now : List Job) (g : Job) → now ≡ overwrite (λ (j : ℕ). turnedOf (period j) t (jobAt old j)) i old
+    → g ≡ turnedOf (period i) t (jobAt now i) → set now i g ≡ overwrite (λ (j : ℕ). turnedOf (period j) t (jobAt old j)) (i + 1) old
 unfolding overwrite jobAt
 one-more-turned period t i old now g e q =
     rw add-one
     (ap₂ (λ (js : List Job) (x : Job). set js i x) e
-    (q ∙ ap (turned (period i) t) (ap (λ (js : List Job). jobAt js i) e ∙ overwrite-from _ old noJob i i (omega arith))))
+    (q ∙ ap (turnedOf (period i) t) (ap (λ (js : List Job). jobAt js i) e ∙ overwrite-from _ old noJob i i (omega arith))))
 
 -- ---- the tighter of two tasks, of which the second is the earlier
 module _ (margin key : ℕ → ℕ) (i best : ℕ) (earlier-place : best < i) where

@@ -56,18 +56,18 @@ unfoldable pub scanOf : TaskList → List Job → Bool → ℕ → ℕ
 scanOf l jobs closing t = first (periodIn l) (lackIn l jobs closing t) (l .count)
 
 -- ---- one slice
-unfoldable pub gave : ℕ → ℕ → Job → Job
-gave period t job = record { had = suc (job .had); end = choose (ltb t period) (suc t) (job .end) }
+unfoldable pub gotOf : ℕ → ℕ → Job → Job
+gotOf period t job = record { had = suc (job .had); end = choose (ltb t period) (suc t) (job .end) }
 
 unfoldable pub giveOf : TaskList → List Job → ℕ → ℕ → List Job
 giveOf l jobs t zero = jobs
-giveOf l jobs t (suc i) = set jobs i (gave (periodIn l i) t (jobAt jobs i))
+giveOf l jobs t (suc i) = set jobs i (gotOf (periodIn l i) t (jobAt jobs i))
 
-unfoldable pub turned : ℕ → ℕ → Job → Job
-turned period t job = record { had = choose (closes period t) 0 (job .had); end = job .end }
+unfoldable pub turnedOf : ℕ → ℕ → Job → Job
+turnedOf period t job = record { had = choose (closes period t) 0 (job .had); end = job .end }
 
 unfoldable pub turnOf : TaskList → List Job → ℕ → List Job
-turnOf l jobs t = overwrite (λ i. turned (periodIn l i) t (jobAt jobs i)) (l .count) jobs
+turnOf l jobs t = overwrite (λ i. turnedOf (periodIn l i) t (jobAt jobs i)) (l .count) jobs
 
 unfoldable pub missedOf : TaskList → List Job → ℕ → Late
 missedOf l jobs t = lateBy (lackIn l jobs true t) (scanOf l jobs true t)

@@ -34,7 +34,7 @@ use Rattle.verdict.specs.Verdict.{judged, verdictFrom, verdictOf}
 use Rattle.verdict.specs.Lateness.{received, missing, missedAt, lateBy, earlier, lateness}
 use Rattle.verdict.specs.Deadlines.{missed-lacks, nothing-late, late-tells}
 use Rattle.verdict.specs.Ends.{endBy, end-none, end-got, end-kept, end-shut, end-is-first, end-within}
-use Rattle.verdict.specs.Shapes.{Bounded, Within, noJob, jobAt, closes, openIn, lackIn, periodIn, scanOf, gave, giveOf, turned, turnOf, missedOf, afterOf, closeOf, beginning, simOf, marginIn, tighterBy, tightestBy, tightestOf, judgedBy, verdictBy}
+use Rattle.verdict.specs.Shapes.{Bounded, Within, noJob, jobAt, closes, openIn, lackIn, periodIn, scanOf, gotOf, giveOf, turnedOf, turnOf, missedOf, afterOf, closeOf, beginning, simOf, marginIn, tighterBy, tightestBy, tightestOf, judgedBy, verdictBy}
 
 -- Of each task the current job has had h i slices, and the first job got its last one before slice e i.
 pub record Holds (l : TaskList) (h e : ℕ → ℕ) (jobs : List Job) : Type 0 where
@@ -101,7 +101,7 @@ module _ (l : TaskList) (B : Bounded l) where
     give-length zero = refl
     give-length (suc i) = length-set jobs i _
 
-    give-to : (e i : ℕ) → e ≡ suc i → i < length jobs → jobAt (giveOf l jobs t e) i ≡ gave (periodIn l i) t (jobAt jobs i)
+    give-to : (e i : ℕ) → e ≡ suc i → i < length jobs → jobAt (giveOf l jobs t e) i ≡ gotOf (periodIn l i) t (jobAt jobs i)
     unfolding giveOf jobAt
     give-to e i q b = rw q (getD-set-same jobs i _ noJob b)
 
@@ -111,12 +111,12 @@ module _ (l : TaskList) (B : Bounded l) where
     give-past (suc j) i ne = getD-set-other jobs j i _ noJob (λ q. ne (ap suc (sym q)))
 
     -- what the task that gets the slice has had with it, and its first job's end so far
-    gave-had : {e : ℕ → ℕ} → Holds l (had P (P .runtime) t) e jobs → (i : ℕ) → i < l .count → table P t ≡ suc i → gave (periodIn l i) t (jobAt jobs i) .had ≡ received P t i
-    unfolding gave received
+    gave-had : {e : ℕ → ℕ} → Holds l (had P (P .runtime) t) e jobs → (i : ℕ) → i < l .count → table P t ≡ suc i → gotOf (periodIn l i) t (jobAt jobs i) .had ≡ received P t i
+    unfolding gotOf received
     gave-had h i li e = omega (arith, h .had-is i li, gets-one (table P t) i e)
 
-    gave-end : {h : ℕ → ℕ} → Holds l h (endBy P t) jobs → (i : ℕ) → i < l .count → table P t ≡ suc i → gave (periodIn l i) t (jobAt jobs i) .end ≡ endBy P (suc t) i
-    unfolding gave periodIn planOf
+    gave-end : {h : ℕ → ℕ} → Holds l h (endBy P t) jobs → (i : ℕ) → i < l .count → table P t ≡ suc i → gotOf (periodIn l i) t (jobAt jobs i) .end ≡ endBy P (suc t) i
+    unfolding gotOf periodIn planOf
     gave-end h i li e =
         ⊎-elim
         (λ (o : P .due i ≤ t). choose-no _ _ _ (le-ltb t (P .due i) o) ∙ h .end-is i li ∙ sym (end-shut P i t o))
@@ -158,14 +158,14 @@ module _ (l : TaskList) (B : Bounded l) where
         (goes-on-or-ends P sound i li t)
 
     pub turn-holds : {e : ℕ → ℕ} → Holds l (received P t) e jobs → Holds l (had P (P .runtime) (suc t)) e (turnOf l jobs t)
-    unfolding turnOf turned jobAt
+    unfolding turnOf turnedOf jobAt
     turn-holds h = record {
       places = overwrite-length _ jobs (l .count) ∙ h .places;
       had-is = λ i li. ap (λ (j : Job). j .had) (at i li) ∙ ap (choose (closes (periodIn l i) t) 0) (h .had-is i li) ∙ turn-had i li;
       end-is = λ i li. ap (λ (j : Job). j .end) (at i li) ∙ h .end-is i li;
     }
       where
-        at : (i : ℕ) → i < l .count → jobAt (turnOf l jobs t) i ≡ turned (periodIn l i) t (jobAt jobs i)
+        at : (i : ℕ) → i < l .count → jobAt (turnOf l jobs t) i ≡ turnedOf (periodIn l i) t (jobAt jobs i)
         at i li = overwrite-below _ jobs noJob (l .count) i (omega (arith, h .places, B .keeps .few)) li
 
   -- ---- the whole run

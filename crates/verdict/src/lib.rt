@@ -10,7 +10,7 @@ ghost use Rattle.tasks.specs.Bounds.{cycleOf};
 ghost use Rattle.verdict.specs.Lateness.{earlier};
 ghost use Rattle.verdict.specs.Verdict.{verdictOf};
 ghost use Rattle.verdict.specs.Table.{Built};
-ghost use Rattle.verdict.specs.Shapes.{Bounded, Within, closes, lackIn, periodIn, scanOf, gave, giveOf, turned, turnOf, missedOf, beginning, simOf, marginIn, tighterBy, tightestOf, judgedBy};
+ghost use Rattle.verdict.specs.Shapes.{Bounded, Within, closes, lackIn, periodIn, scanOf, gotOf, giveOf, turnedOf, turnOf, missedOf, beginning, simOf, marginIn, tighterBy, tightestOf, judgedBy};
 use tasks::Bounds;
 use tasks::TaskList;
 
@@ -87,7 +87,11 @@ fn first_of(list: TaskList, lack: u32, place: usize, entry: usize) -> usize
     let tasks = list.tasks;
     let next = tasks[place];
     let best = tasks[entry - 1];
-    if next.period < best.period { place + 1 } else { entry }
+    if next.period < best.period {
+        place + 1
+    } else {
+        entry
+    }
 }
 
 // The entry of the first-ranking task whose job lacks something.
@@ -109,7 +113,7 @@ fn scan(list: TaskList, jobs: [Job; 16], closing: bool, t: u32) -> usize
 // The job that gets slice t.
 fn got(job: Job, period: u32, t: u32) -> Job
     requires { ⌜ (job .had ≤ 4096) × (t < 4096) ⌝ }
-    ensures { λ r. ⌜ r ≡ gave period t job ⌝ }
+    ensures { λ r. ⌜ r ≡ gotOf period t job ⌝ }
 {
     let had = job.had + 1;
     if t < period {
@@ -135,12 +139,15 @@ fn give(list: TaskList, jobs: [Job; 16], entry: usize, t: u32) -> [Job; 16]
 }
 
 // The job after slice t, or the fresh one where it was its last.
-fn turn_one(job: Job, period: u32, t: u32) -> Job
+fn turned(job: Job, period: u32, t: u32) -> Job
     requires { ⌜ (0 < period) × (period ≤ 4096) ⌝ }
-    ensures { λ r. ⌜ r ≡ turned period t job ⌝ }
+    ensures { λ r. ⌜ r ≡ turnedOf period t job ⌝ }
 {
     if is_last(period, t) {
-        Job { had: 0, end: job.end }
+        Job {
+            had: 0,
+            end: job.end,
+        }
     } else {
         job
     }
@@ -156,7 +163,7 @@ fn turn(list: TaskList, jobs: [Job; 16], t: u32) -> [Job; 16]
     let mut i = 0;
     while i < count {
         let task = tasks[i];
-        let next = turn_one(after[i], task.period, t);
+        let next = turned(after[i], task.period, t);
         after[i] = next;
         i += 1;
     }
@@ -332,7 +339,7 @@ pub fn build(list: TaskList, supply: u32, table: &mut [u8]) -> Verdict
     ensures { λ r. ⌜ Built list supply (now (table .entry)) (now (table .exit)) r ⌝ }
 {
     let verdict = judge(list, supply);
-    let Verdict::Accepted { cycle, jobs, task, margin } = verdict else {
+    let Verdict::Accepted { cycle, .. } = verdict else {
         return verdict;
     };
     if table.len() < cycle as usize {

@@ -3,7 +3,7 @@ use native.Mathlib.Numerals.{add-one}
 use Rattle.basis.specs.Choose.{choose}
 use borrow.Author.Needs.{needs}
 use borrow.Author.Tests.{lt-ltb, le-ltb}
-use Rattle.verdict.specs.Shapes.{gave}
+use Rattle.verdict.specs.Shapes.{gotOf}
 use Rattle.verdict.proofs.got.Statement.{statement}
 use Rattle.verdict.proofs.got.Tie as tie
 
@@ -14,11 +14,11 @@ add-t7 : tie.Need-add-t7
 add-t7 c = search needs
 
 returns : tie.Need-returns
-unfolding gave choose
+unfolding gotOf choose
 returns c = rw (add-one, add-one, lt-ltb _ _ (c .if1 .taken))
 
 returns-2 : tie.Need-returns-2
-unfolding gave choose
+unfolding gotOf choose
 returns-2 c = rw (add-one, le-ltb _ _ (c .if1 .left))
 
 pub got-spec : {M : Type 1} → statement M

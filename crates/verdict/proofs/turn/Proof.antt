@@ -4,17 +4,17 @@ use mathlib.Core.Path.{_≡_, refl}
 use native.Mathlib.Omega.{arith}
 use Rattle.basis.specs.Bytes.{overwrite}
 use Rattle.tasks.specs.List.{taskAt, noTask}
-use Rattle.verdict.specs.Shapes.{noJob, jobAt, turned, periodIn, turnOf}
+use Rattle.verdict.specs.Shapes.{noJob, jobAt, turnedOf, periodIn, turnOf}
 use Rattle.verdict.proofs.Steps.{one-more-turned}
 use Rattle.verdict.proofs.turn.Statement.{statement}
 use Rattle.verdict.proofs.turn.Tie as tie
 use Rattle.verdict.proofs.turn.Reads as reads
 use Rattle.verdict.proofs.turn.Lts as lts
-use Rattle.verdict.proofs.turn_one.Reads as turn-one-reads
+use Rattle.verdict.proofs.turned.Reads as turned-reads
 
 abbrev Inv-loop : tie.InvT-loop
 Inv-loop t tasks count after₀ i₀ after i =
-    (i ≤ count) × (after ≡ overwrite (λ (j : ℕ). turned (taskAt tasks j .period) t (jobAt after₀ j)) i after₀)
+    (i ≤ count) × (after ≡ overwrite (λ (j : ℕ). turnedOf (taskAt tasks j .period) t (jobAt after₀ j)) i after₀)
 
 abbrev μ-loop : tie.MeasureT-loop
 μ-loop t tasks count after₀ i₀ after i =
@@ -30,15 +30,15 @@ mul-task c = omega (arith, c .before .before .before .pre .keeps .few)
 array-copy-out-task : tie.Need-array-copy-out-task Inv-loop μ-loop
 array-copy-out-task c = omega (arith, c .before .before .before .pre .keeps .few)
 
-mul-turn-one : tie.Need-mul-turn-one Inv-loop μ-loop
-mul-turn-one c = omega (arith, c .before .before .before .before .pre .keeps .few)
+mul-turned : tie.Need-mul-turned Inv-loop μ-loop
+mul-turned c = omega (arith, c .before .before .before .before .pre .keeps .few)
 
-array-copy-out-turn-one : tie.Need-array-copy-out-turn-one Inv-loop μ-loop
-array-copy-out-turn-one c = omega (arith, c .before .before .before .before .pre .keeps .few)
+array-copy-out-turned : tie.Need-array-copy-out-turned Inv-loop μ-loop
+array-copy-out-turned c = omega (arith, c .before .before .before .before .pre .keeps .few)
 
-turn-one-requires : tie.Need-turn-one-requires Inv-loop μ-loop
+turned-requires : tie.Need-turned-requires Inv-loop μ-loop
 unfolding taskAt noTask
-turn-one-requires c κs =
+turned-requires c κs =
     let fits = c .before .before .before .before .before .pre .keeps .fits _ (c .before .before .loop-test .taken) in
     (fits .period-from, fits .period-to)
 
@@ -57,7 +57,7 @@ loop-less c = omega arith
 loop-again : tie.Need-loop-again Inv-loop μ-loop
 unfolding taskAt noTask jobAt noJob
 loop-again c =
-    (omega arith, one-more-turned _ _ _ (c .before .before .before .before .before .before .args .jobs) _ _ (c .before .before .before .before .loop .inv .1) (c .turn-one .ensures))
+    (omega arith, one-more-turned _ _ _ (c .before .before .before .before .before .before .args .jobs) _ _ (c .before .before .before .before .loop .inv .1) (c .turned .ensures))
 
 returns : tie.Need-returns Inv-loop μ-loop
 unfolding turnOf periodIn
@@ -74,9 +74,9 @@ turn-spec =
     loop-holds
     mul-task
     array-copy-out-task
-    mul-turn-one
-    array-copy-out-turn-one
-    turn-one-requires
+    mul-turned
+    array-copy-out-turned
+    turned-requires
     mul-after
     array-set-from-after
     add-i
