@@ -8,7 +8,7 @@ use native.Mathlib.Omega.{arith}
 use native.Mathlib.Nat.{one-dvd, dvd-trans, le-of-dvd, pos-of-ne-zero}
 use lib.Dec.{ltb, eqb}
 use borrow.Author.Tests.{lt-ltb, le-ltb, ltb-false, eq-eqb, ne-eqb, eqb-false}
-use Rattle.basis.specs.Choose.{choose, choose-yes, choose-no, le-or-lt, eq-or-ne, below-suc}
+use Rattle.basis.specs.Choose.{choose, choose-yes, choose-no, choose-either, le-or-lt, eq-or-ne, below-suc}
 use Rattle.basis.specs.Sum.{sum-grows}
 use Rattle.tasks.specs.declared.Task.{Task}
 use Rattle.tasks.specs.declared.TaskList.{TaskList}
@@ -279,4 +279,37 @@ kept-tells l supply cycle jobs e =
     let never : Kept cycle jobs ≡ Broken (found l supply .number) (found l supply .task) = sym e ∙ bounds-broken l supply nz in
     let z : _≡_ {A = ℕ} 0 1 = cc in
     absurd (omega arith))
+    (eq-or-ne (found l supply .number) 0)
+
+-- ---- the numbers of refusal here are 1 to 6
+abbrev UpTo6 : Finding → Type 0
+UpTo6 f = f .number ≤ 6
+
+first-to-6 : (find : ℕ → Finding) → ((i : ℕ) → UpTo6 (find i)) → (n : ℕ) → UpTo6 (firstFound find n)
+unfolding firstFound _orElse_ none refusal
+first-to-6 find h zero = omega arith
+first-to-6 find h (suc n) = choose-either UpTo6 _ _ _ (h n) (first-to-6 find h n)
+
+found-to-6 : (l : TaskList) (supply : ℕ) → UpTo6 (found l supply)
+unfolding found _orElse_ ofCount ofTask ofNumbers ofMemory ofCycle none refusal
+found-to-6 l supply =
+    choose-either UpTo6 _ _ _
+    (choose-either UpTo6 _ _ _
+    (choose-either UpTo6 _ _ _
+    (first-to-6 _ (λ i. choose-either UpTo6 _ _ _ (omega arith) (omega arith)) (l .count))
+    (first-to-6 _ (λ i. choose-either UpTo6 _ _ _ (omega arith) (omega arith)) (l .count)))
+    (first-to-6 _ (λ i. choose-either UpTo6 _ _ _ (omega arith) (choose-either UpTo6 _ _ _ (omega arith) (omega arith))) (l .count)))
+    (choose-either UpTo6 _ _ _ (omega arith) (choose-either UpTo6 _ _ _ (omega arith) (omega arith)))
+
+pub broken-number : (l : TaskList) (supply number task : ℕ) → boundsOf l supply ≡ Broken number task → number ≤ 6
+broken-number l supply number task e =
+    ⊎-elim
+    (λ (z : found l supply .number ≡ 0).
+    let never : Broken number task ≡ Kept (cycleOf l) (jobsOf l) = sym e ∙ bounds-kept l supply (nothing-found l supply .0 z) in
+    let zero-one : _≡_ {A = ℕ} 0 1 = cc in
+    absurd (omega arith))
+    (λ (nz : found l supply .number ≡ 0 → ⊥).
+    let same : Broken number task ≡ Broken (found l supply .number) (found l supply .task) = sym e ∙ bounds-broken l supply nz in
+    let n : number ≡ found l supply .number = cc in
+    omega (arith, found-to-6 l supply))
     (eq-or-ne (found l supply .number) 0)

@@ -22,10 +22,10 @@ use Rattle.verdict.specs.declared.Late.{Late}
 use Rattle.verdict.specs.declared.Verdict.{Verdict}
 use Rattle.verdict.specs.declared.Verdict.the-variants.{Accepted, Refused}
 use Rattle.verdict.specs.Lateness.{lateness}
-use Rattle.verdict.specs.Verdict.{verdictOf}
+use Rattle.verdict.specs.Verdict.{verdictFrom, verdictOf}
 use Rattle.verdict.specs.Table.{fitted, tabled, Built}
 use Rattle.verdict.specs.Deadlines.{late-tells, missed-lacks, missing-is}
-use Rattle.verdict.specs.Answers.{broken-refused, accepted-tells}
+use Rattle.verdict.specs.Answers.{accepted-tells}
 use Rattle.verdict.specs.Shapes.{Bounded, Within, periodIn, simOf, marginIn, tightestOf, judgedBy, verdictBy}
 use Rattle.verdict.specs.Simulation.{sim-within, late-is, entry-is, tightest-below, verdict-is}
 
@@ -65,14 +65,18 @@ module _ (l : TaskList) (B : Bounded l) (cycle : ℕ) (sim : Sim) (at : sim ≡ 
 -- ---- the verdict
 module _ (l : TaskList) (supply : ℕ) where
   pub judge-broken : (number task : ℕ) → boundsOf l supply ≡ Broken number task → Refused number task (pos 0) ≡ verdictOf l supply
-  judge-broken number task e = sym (broken-refused l supply number task e)
+  unfolding verdictOf verdictFrom
+  judge-broken number task e = sym (ap (verdictFrom l) e)
 
   pub judge-kept : (cycle jobs : ℕ) (r : Verdict) → boundsOf l supply ≡ Kept cycle jobs → r ≡ judgedBy l cycle jobs (simOf l cycle) → r ≡ verdictOf l supply
   unfolding verdictBy
   judge-kept cycle jobs r e q = q ∙ sym (verdict-is l supply ∙ ap (verdictBy l) e)
 
   pub accepted-bounded : (cycle jobs task : ℕ) (m : ℤ) → verdictOf l supply ≡ Accepted cycle jobs task m → Bounded l × (cycle ≡ cycleOf l)
-  accepted-bounded cycle jobs task m e = let k = accepted-tells l supply cycle jobs task m e in (record { supply = supply; keeps = k .keeps }, k .cycle-is)
+  accepted-bounded cycle jobs task m e =
+      let k = accepted-tells l supply cycle jobs task m e in
+      let same = k .is in
+      (record { supply = supply; keeps = k .keeps }, cc)
 
 -- ---- the table
 module _ (l : TaskList) (B : Bounded l) (t : ℕ) (next : Sim) (at : next ≡ simOf l (t + 1)) where
