@@ -6,7 +6,7 @@ use Prim.Native.Nat.{ℕ, zero, suc, _≤_, _<_}
 use native.Mathlib.Omega.{arith}
 use lib.Dec.{ltb}
 use borrow.Author.Tests.{lt-ltb, le-ltb}
-use Rattle.basis.specs.Choose.{choose, choose-yes, choose-no, bool-cases, le-or-lt, below-suc}
+use Rattle.basis.specs.Choose.{choose, bool-cases, le-or-lt, below-suc}
 
 -- The least number below n that passes the test; n if none does.
 unfoldable pub least : (ℕ → Bool) → ℕ → ℕ

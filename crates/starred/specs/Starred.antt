@@ -7,20 +7,20 @@ use lib.ListN.{replicate}
 use Rattle.basis.specs.Choose.{choose}
 use Rattle.basis.specs.Sum.{sum}
 use Rattle.basis.specs.Bytes.{overwrite, overwrite-same}
-use Rattle.plan.specs.Plan.{ranksBefore, firstOf, first, table}
+use Rattle.plan.specs.Plan.{ranksBefore, firstOf, first}
 use Rattle.tasks.specs.declared.Task.{Task}
-use Rattle.tasks.specs.declared.Bounds.{Bounds}
-use Rattle.tasks.specs.declared.Bounds.the-variants.{Kept, Broken}
-use Rattle.tasks.specs.List.{noTask, taskAt, planOf}
+use Rattle.tasks.specs.declared.Bounds.the-variants.{Kept}
+use Rattle.tasks.specs.List.{noTask, taskAt}
 use Rattle.tasks.specs.Euclid.{euclid, gcdOf, lcmOf}
 use Rattle.tasks.specs.Bounds.{multiple, memorySum, jobSum, cycleOf, jobsOf, refusal, none, _orElse_, firstFound, outside, ofCount, ofNumbers, ofTask, ofMemory, ofCycle, found, answer, boundsOf}
 use Rattle.verdict.specs.declared.Verdict.{Verdict}
 use Rattle.verdict.specs.declared.Verdict.the-variants.{Accepted}
 use Rattle.verdict.specs.Lateness.{lateBy, earlier}
-use Rattle.verdict.specs.Verdict.{verdictOf, Numbers, numbers}
+use Rattle.verdict.specs.Verdict.{numbers}
 use Rattle.verdict.specs.Table.{tabled}
 use Rattle.verdict.specs.Shapes.{noJob, jobAt, closes, periodIn, openIn, lackIn, scanOf, gotOf, giveOf, turnedOf, turnOf, missedOf, afterOf, closeOf, beginning, simOf, marginIn, tighterBy, tightestBy, tightestOf, judgedBy, verdictBy}
-use Rattle.verdict.specs.Simulation.{entry-is, kept-bounded, verdict-is}
+use Rattle.verdict.specs.Simulation.{entry-is}
+use Rattle.verdict.specs.Judged.{kept-bounded, verdict-is}
 use Rattle.starred.specs.Lists.{task, listed, verdict, entries, accepted, late, A, B, C, D, E, F, G, H, Starred}
 
 -- the verdict by the simulation

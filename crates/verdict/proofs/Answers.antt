@@ -4,13 +4,12 @@ use mathlib.Core.List.{List}
 use Prim.Native.Nat.{ℕ, suc, _+_, _-_, _≤_, _<_}
 use native.Mathlib.Omega.{arith}
 use native.Mathlib.Numerals.{add-one}
-use lib.Dec.{eqb, ltb}
 use lib.IntN.{ℤ, pos, subℕ}
 use lib.ListN.{length, set}
 use borrow.Author.Tests.{eq-eqb, ne-eqb, lt-ltb, le-ltb}
 use Rattle.basis.specs.Choose.{choose-yes, choose-no}
 use Rattle.basis.specs.Bytes.{overwrite, overwrite-length}
-use Rattle.plan.specs.Plan.{Sound, table}
+use Rattle.plan.specs.Plan.{table}
 use Rattle.plan.specs.Counting.{entry-within}
 use Rattle.tasks.specs.declared.TaskList.{TaskList}
 use Rattle.tasks.specs.declared.Bounds.the-variants.{Kept, Broken}
@@ -27,7 +26,8 @@ use Rattle.verdict.specs.Table.{fitted, tabled, Built}
 use Rattle.verdict.specs.Deadlines.{late-tells, missed-lacks, missing-is}
 use Rattle.verdict.specs.Answers.{accepted-tells}
 use Rattle.verdict.specs.Shapes.{Bounded, Within, periodIn, simOf, marginIn, tightestOf, judgedBy, verdictBy}
-use Rattle.verdict.specs.Simulation.{sim-within, late-is, entry-is, tightest-below, verdict-is}
+use Rattle.verdict.specs.Simulation.{sim-within, late-is, entry-is}
+use Rattle.verdict.specs.Judged.{tightest-below, verdict-is}
 
 -- ---- the verdict of a list that keeps all bounds
 module _ (l : TaskList) (B : Bounded l) (cycle : ℕ) (sim : Sim) (at : sim ≡ simOf l cycle) where

@@ -18,7 +18,7 @@ use Rattle.verdict.specs.declared.Verdict.{Verdict}
 use Rattle.verdict.specs.declared.Verdict.the-variants.{Accepted, Refused}
 use Rattle.verdict.specs.Lateness.{lateness}
 use Rattle.verdict.specs.Margin.{margin, tightest}
-use Rattle.verdict.specs.Verdict.{judged, verdictFrom, verdictOf, Numbers, numbers}
+use Rattle.verdict.specs.Verdict.{judged, verdictFrom, verdictOf, numbers}
 use Rattle.verdict.specs.Deadlines.{EarliestMissed, nothing-late, late-tells}
 
 -- A bound is broken: refusal 1 to 6, with margin 0.

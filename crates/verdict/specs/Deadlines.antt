@@ -1,10 +1,9 @@
 -- Laws of lateness: none is found exactly if every job is on time, and what is told by one that is found.
 use mathlib.Core.Path.{_≡_, refl, sym, ap, _∙_}
-use mathlib.Core.Logic.{_⊎_, ⊎-elim, _↔_}
-use Prim.Native.Nat.{ℕ, zero, suc, _+_, _-_, _≤_, _<_}
+use mathlib.Core.Logic.{⊎-elim, _↔_}
+use Prim.Native.Nat.{ℕ, zero, suc, _+_, _-_, _<_}
 use native.Mathlib.Omega.{arith}
 use native.Mathlib.Nat.{suc-inj}
-use lib.Dec.{eqb}
 use borrow.Author.Tests.{eq-eqb, ne-eqb}
 use Rattle.basis.specs.Choose.{choose-yes, choose-no, eq-or-ne}
 use Rattle.plan.specs.Plan.{Plan, Sound, release, deadline, job, age, keyIn, IsFirst, NoneWants, FirstTask, given, table, HadBy, OnTime, OnTimeUpTo}

@@ -8,3 +8,4 @@ pub mod Answers
 pub mod Ends
 pub mod Shapes
 pub mod Simulation
+pub mod Judged

@@ -8,7 +8,6 @@ use lib.ListN.{getD, set, replicate}
 use Rattle.basis.specs.Choose.{choose}
 use Rattle.basis.specs.Bytes.{overwrite}
 use Rattle.plan.specs.Plan.{first, ranksBefore}
-use Rattle.tasks.specs.declared.Task.{Task}
 use Rattle.tasks.specs.declared.TaskList.{TaskList}
 use Rattle.tasks.specs.declared.Bounds.{Bounds}
 use Rattle.tasks.specs.declared.Bounds.the-variants.{Kept, Broken}

@@ -3,8 +3,6 @@ use mathlib.Core.Path.{refl}
 use Rattle.verdict.specs.Shapes.{noJob, beginning}
 use Rattle.verdict.proofs.begin.Statement.{statement}
 use Rattle.verdict.proofs.begin.Tie as tie
-use Rattle.verdict.proofs.begin.Reads as reads
-use Rattle.verdict.proofs.begin.Lts as lts
 
 returns : tie.Need-returns
 unfolding beginning noJob

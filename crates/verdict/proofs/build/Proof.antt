@@ -5,10 +5,6 @@ use Rattle.verdict.proofs.Answers.{accepted-bounded, built-refused, bui
 use borrow.Author.Needs.{needs}
 use Rattle.verdict.proofs.build.Statement.{statement}
 use Rattle.verdict.proofs.build.Tie as tie
-use Rattle.verdict.proofs.build.Reads as reads
-use Rattle.verdict.proofs.build.Lts as lts
-use Rattle.verdict.proofs.judge.Reads as judge-reads
-use Rattle.verdict.proofs.write_entries.Reads as write-entries-reads
 
 judge-requires : tie.Need-judge-requires
 judge-requires c κs = search needs

@@ -5,11 +5,6 @@ use Rattle.verdict.proofs.Answers.{ends-within, short-within, judged-la
 use borrow.Author.Needs.{needs}
 use Rattle.verdict.proofs.decide.Statement.{statement}
 use Rattle.verdict.proofs.decide.Tie as tie
-use Rattle.verdict.proofs.decide.Reads as reads
-use Rattle.verdict.proofs.decide.Lts as lts
-use Rattle.verdict.proofs.margin_of.Reads as margin-of-reads
-use Rattle.verdict.proofs.simulate.Reads as simulate-reads
-use Rattle.verdict.proofs.tightest_of.Reads as tightest-of-reads
 
 simulate-requires : tie.Need-simulate-requires
 simulate-requires c κs = search needs

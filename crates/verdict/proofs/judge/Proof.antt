@@ -1,14 +1,10 @@
 -- `verdict::judge` meets its contract.
 use mathlib.Core.Path.{sym, _∙_}
-use Rattle.verdict.specs.Simulation.{kept-bounded}
+use Rattle.verdict.specs.Judged.{kept-bounded}
 use Rattle.verdict.proofs.Answers.{judge-broken, judge-kept}
 use borrow.Author.Needs.{needs}
 use Rattle.verdict.proofs.judge.Statement.{statement}
 use Rattle.verdict.proofs.judge.Tie as tie
-use Rattle.verdict.proofs.judge.Reads as reads
-use Rattle.verdict.proofs.judge.Lts as lts
-use Rattle.tasks.proofs.check_bounds.Reads as check-bounds-reads
-use Rattle.verdict.proofs.decide.Reads as decide-reads
 
 check-bounds-requires : tie.Need-check-bounds-requires
 check-bounds-requires c κs = search needs

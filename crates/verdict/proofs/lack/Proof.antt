@@ -6,9 +6,6 @@ use Rattle.verdict.specs.Shapes.{noJob, jobAt, periodIn, openIn, lackIn}
 use borrow.Author.Needs.{needs}
 use Rattle.verdict.proofs.lack.Statement.{statement}
 use Rattle.verdict.proofs.lack.Tie as tie
-use Rattle.verdict.proofs.lack.Reads as reads
-use Rattle.verdict.proofs.lack.Lts as lts
-use Rattle.verdict.proofs.is_last.Reads as is-last-reads
 
 mul-task : tie.Need-mul-task
 mul-task c = search needs

@@ -5,8 +5,6 @@ use Rattle.verdict.specs.Shapes.{noJob, jobAt, periodIn, marginIn}
 use borrow.Author.Needs.{needs}
 use Rattle.verdict.proofs.margin_of.Statement.{statement}
 use Rattle.verdict.proofs.margin_of.Tie as tie
-use Rattle.verdict.proofs.margin_of.Reads as reads
-use Rattle.verdict.proofs.margin_of.Lts as lts
 
 mul-task : tie.Need-mul-task
 mul-task c = search needs

@@ -1,14 +1,9 @@
 -- `verdict::missed` meets its contract.
-use Prim.Native.Nat.{_-_, _<_}
 use native.Mathlib.Omega.{arith}
 use Rattle.verdict.proofs.Steps.{scan-within, missed-none, missed-some}
 use borrow.Author.Needs.{needs}
 use Rattle.verdict.proofs.missed.Statement.{statement}
 use Rattle.verdict.proofs.missed.Tie as tie
-use Rattle.verdict.proofs.missed.Reads as reads
-use Rattle.verdict.proofs.missed.Lts as lts
-use Rattle.verdict.proofs.lack.Reads as lack-reads
-use Rattle.verdict.proofs.scan.Reads as scan-reads
 
 scan-requires : tie.Need-scan-requires
 scan-requires c κs = search needs

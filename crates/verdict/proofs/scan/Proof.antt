@@ -7,10 +7,6 @@ use Rattle.verdict.specs.Shapes.{lackIn, periodIn, scanOf}
 use Rattle.verdict.proofs.Steps.{first-within, one-more-first}
 use Rattle.verdict.proofs.scan.Statement.{statement}
 use Rattle.verdict.proofs.scan.Tie as tie
-use Rattle.verdict.proofs.scan.Reads as reads
-use Rattle.verdict.proofs.scan.Lts as lts
-use Rattle.verdict.proofs.first_of.Reads as first-of-reads
-use Rattle.verdict.proofs.lack.Reads as lack-reads
 
 abbrev Inv-loop : tie.InvT-loop
 Inv-loop list jobs closing t count entry₀ i₀ entry i =

@@ -5,10 +5,6 @@ use native.Mathlib.Omega.{arith}
 use Rattle.verdict.specs.Shapes.{simOf}
 use Rattle.verdict.proofs.simulate.Statement.{statement}
 use Rattle.verdict.proofs.simulate.Tie as tie
-use Rattle.verdict.proofs.simulate.Reads as reads
-use Rattle.verdict.proofs.simulate.Lts as lts
-use Rattle.verdict.proofs.begin.Reads as begin-reads
-use Rattle.verdict.proofs.close.Reads as close-reads
 
 abbrev Inv-loop : tie.InvT-loop
 Inv-loop list cycle sim₀ t₀ sim t =

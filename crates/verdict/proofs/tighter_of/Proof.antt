@@ -5,9 +5,6 @@ use Rattle.verdict.proofs.Steps.{tighter-smaller, tighter-larger, tight
 use borrow.Author.Needs.{needs}
 use Rattle.verdict.proofs.tighter_of.Statement.{statement}
 use Rattle.verdict.proofs.tighter_of.Tie as tie
-use Rattle.verdict.proofs.tighter_of.Reads as reads
-use Rattle.verdict.proofs.tighter_of.Lts as lts
-use Rattle.verdict.proofs.margin_of.Reads as margin-of-reads
 
 margin-of-requires : tie.Need-margin-of-requires
 margin-of-requires c κs = search needs

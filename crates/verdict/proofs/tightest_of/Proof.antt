@@ -1,15 +1,12 @@
 -- `verdict::tightest_of` meets its contract.
 use Prim.Native.Nat.{_≤_, _-_}
-use mathlib.Core.Path.{_≡_, refl}
+use mathlib.Core.Path.{_≡_}
 use native.Mathlib.Omega.{arith}
 use Rattle.verdict.specs.Shapes.{marginIn, periodIn, tightestBy, tightestOf}
-use Rattle.verdict.specs.Simulation.{tightest-below}
+use Rattle.verdict.specs.Judged.{tightest-below}
 use Rattle.verdict.proofs.Steps.{tightest-first, one-more-tightest}
 use Rattle.verdict.proofs.tightest_of.Statement.{statement}
 use Rattle.verdict.proofs.tightest_of.Tie as tie
-use Rattle.verdict.proofs.tightest_of.Reads as reads
-use Rattle.verdict.proofs.tightest_of.Lts as lts
-use Rattle.verdict.proofs.tighter_of.Reads as tighter-of-reads
 
 abbrev Inv-loop : tie.InvT-loop
 Inv-loop list jobs count best₀ i₀ best i =

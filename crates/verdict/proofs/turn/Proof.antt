@@ -8,9 +8,6 @@ use Rattle.verdict.specs.Shapes.{noJob, jobAt, turnedOf, periodIn, turnO
 use Rattle.verdict.proofs.Steps.{one-more-turned}
 use Rattle.verdict.proofs.turn.Statement.{statement}
 use Rattle.verdict.proofs.turn.Tie as tie
-use Rattle.verdict.proofs.turn.Reads as reads
-use Rattle.verdict.proofs.turn.Lts as lts
-use Rattle.verdict.proofs.turned.Reads as turned-reads
 
 abbrev Inv-loop : tie.InvT-loop
 Inv-loop t tasks count after₀ i₀ after i =

@@ -9,10 +9,6 @@ use Rattle.verdict.specs.Shapes.{simOf}
 use Rattle.verdict.proofs.Answers.{as-long, entry-small, one-more-entry}
 use Rattle.verdict.proofs.write_entries.Statement.{statement}
 use Rattle.verdict.proofs.write_entries.Tie as tie
-use Rattle.verdict.proofs.write_entries.Reads as reads
-use Rattle.verdict.proofs.write_entries.Lts as lts
-use Rattle.verdict.proofs.begin.Reads as begin-reads
-use Rattle.verdict.proofs.close.Reads as close-reads
 
 abbrev Inv-loop : tie.InvT-loop
 Inv-loop list cycle table₀ sim₀ t₀ table sim t =
