@@ -17,7 +17,7 @@ use Rattle.verdict.specs.declared.Job.{Job}
 use Rattle.verdict.specs.declared.Late.{Late}
 use Rattle.verdict.specs.declared.Sim.{Sim}
 use Rattle.verdict.specs.Lateness.{lateBy, earlier}
-use Rattle.verdict.specs.Shapes.{Bounded, Within, noJob, jobAt, lackIn, periodIn, scanOf, gotOf, giveOf, turnedOf, turnOf, missedOf, afterOf, closeOf, simOf, tighterBy, tightestBy}
+use Rattle.verdict.specs.Shapes.{Bounded, Within, noJob, jobAt, closes, lackIn, periodIn, scanOf, gotOf, giveOf, turnedOf, turnOf, missedOf, afterOf, closeOf, simOf, tighterBy, tightestBy}
 use Rattle.verdict.specs.Simulation.{sim-within, after-within}
 
 less-one : (i : ℕ) → suc i - 1 ≡ i
@@ -64,6 +64,24 @@ late-at : (f : ℕ → ℕ) (e x : ℕ) → (e ≡ 0 → ⊥) → x ≡ f (e - 1
 unfolding lateBy
 late-at f zero x ne q = absurd (ne refl)
 late-at f (suc i) x ne q = ap (λ (s : ℕ). record { task = suc i; short = s }) (q ∙ ap f (less-one i))
+
+-- ---- the job that gets a slice, and the job after it
+module _ (period t : ℕ) (job : Job) where
+  pub got-early : t < period → record { had = job .had + 1; end = t + 1 } ≡ gotOf period t job
+  unfolding gotOf choose
+  got-early l = rw (add-one, add-one, lt-ltb t period l)
+
+  pub got-late : period ≤ t → record { had = job .had + 1; end = job .end } ≡ gotOf period t job
+  unfolding gotOf choose
+  got-late l = rw (add-one, le-ltb t period l)
+
+  pub turned-fresh : closes period t ≡ true → record { had = 0; end = job .end } ≡ turnedOf period t job
+  unfolding turnedOf choose
+  turned-fresh e = rw e
+
+  pub turned-same : closes period t ≡ false → job ≡ turnedOf period t job
+  unfolding turnedOf choose
+  turned-same e = rw e
 
 -- ---- the task that misses a deadline
 module _ (l : TaskList) (jobs : List Job) (t e : ℕ) where

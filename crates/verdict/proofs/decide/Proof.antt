@@ -1,4 +1,5 @@
 -- `verdict::decide` meets its contract.
+use Prim.Native.Nat.{_≤_}
 use native.Mathlib.Omega.{arith}
 use Rattle.verdict.proofs.Signed.{fits-signed, as-signed, fits-negative, as-negative}
 use Rattle.verdict.proofs.Answers.{ends-within, short-within, judged-late, best-below, margin-within, judged-accepted}
@@ -9,19 +10,22 @@ use Rattle.verdict.proofs.decide.Tie as tie
 simulate-requires : tie.Need-simulate-requires
 simulate-requires c κs = search needs
 
+-- what the job named lacked is at most its run-time
+few : (c : tie.After-struct-known2) → c .before .before .before .before .before .simulate .result .late .short ≤ 4096
+few c =
+    short-within _ (c .before .before .before .before .before .before .pre .0) _ _ (c .before .before .before .before .before .simulate .ensures) (c .before .if1 .taken)
+
 cast-short : tie.Need-cast-short
-cast-short c =
-    fits-signed _ (short-within _ (c .before .before .before .before .before .before .pre .0) _ _ (c .before .before .before .before .before .simulate .ensures) (c .before .if1 .taken))
+cast-short c = fits-signed _ (few c)
 
 sub-t11 : tie.Need-sub-t11
-sub-t11 c =
-    fits-negative _ (short-within _ (c .before .before .before .before .before .before .pre .0) _ _ (c .before .before .before .before .before .simulate .ensures) (c .before .if1 .taken))
+sub-t11 c = fits-negative _ (few c)
 
 returns : tie.Need-returns
 returns c =
     let P = c .before .before .before .before .before .before .pre .0 in
     let at = c .before .before .before .before .before .simulate .ensures in
-    judged-late _ P _ _ at _ _ (c .before .if1 .taken) (as-negative _ (short-within _ P _ _ at (c .before .if1 .taken)))
+    judged-late _ P _ _ at _ _ (c .before .if1 .taken) (as-negative _ (few c))
 
 tightest-of-requires : tie.Need-tightest-of-requires
 tightest-of-requires c κs =
