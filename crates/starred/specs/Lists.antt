@@ -21,9 +21,9 @@ listed ts = record { tasks = ts ++ replicate (16 - length ts) noTask; count = le
 unfoldable pub verdict : List Task → Numbers
 verdict ts = numbers (verdictOf (listed ts) 0)
 
--- What table building writes over a table of n zeros.
+-- What table building leaves in n bytes that all held 255.
 unfoldable pub entries : List Task → ℕ → List ℕ
-entries ts n = tabled (listed ts) (verdictOf (listed ts) 0) (replicate n 0)
+entries ts n = tabled (listed ts) (verdictOf (listed ts) 0) (replicate n 255)
 
 unfoldable pub accepted : ℕ → ℤ → ℕ → ℕ → Numbers
 accepted task margin cycle jobs = record { number = 0; task = task; signed = margin; cycle = cycle; jobs = jobs }

@@ -33,13 +33,13 @@ verdict-on ts = ap numbers (verdict-is (listed ts) 0)
 
 -- the entries by the simulation, of a list that keeps all bounds
 unfoldable entriesOn : List Task → ℕ → List ℕ
-entriesOn ts n = overwrite (λ t. simOf (listed ts) (suc t) .entry) n (replicate n 0)
+entriesOn ts n = overwrite (λ t. simOf (listed ts) (suc t) .entry) n (replicate n 255)
 
 entries-on : (ts : List Task) (n jobs task : ℕ) (margin : ℤ) → boundsOf (listed ts) 0 ≡ Kept n jobs → verdictOn ts ≡ Accepted n jobs task margin → entries ts n ≡ entriesOn ts n
 unfolding entries entriesOn verdictOn tabled
 entries-on ts n jobs task margin kept is =
-    ap (λ (v : Verdict). tabled (listed ts) v (replicate n 0)) (verdict-is (listed ts) 0 ∙ is)
-    ∙ overwrite-same _ _ (replicate n 0) n (λ t lt. sym (entry-is (listed ts) (kept-bounded (listed ts) 0 n jobs kept .0) t))
+    ap (λ (v : Verdict). tabled (listed ts) v (replicate n 255)) (verdict-is (listed ts) 0 ∙ is)
+    ∙ overwrite-same _ _ (replicate n 255) n (λ t lt. sym (entry-is (listed ts) (kept-bounded (listed ts) 0 n jobs kept .0) t))
 
 pub starred : Starred
 unfolding A B C D E F G H task listed accepted late verdictOn entriesOn numbers choose sum overwrite ranksBefore firstOf first noTask taskAt euclid gcdOf lcmOf multiple memorySum jobSum cycleOf jobsOf refusal none _orElse_ firstFound outside ofCount ofNumbers ofTask ofMemory ofCycle found answer boundsOf lateBy earlier noJob jobAt closes periodIn openIn lackIn scanOf gotOf giveOf turnedOf turnOf missedOf afterOf closeOf beginning simOf marginIn tighterBy tightestBy tightestOf judgedBy verdictBy
