@@ -15,7 +15,6 @@ use Rattle.tasks.specs.declared.TaskList.{TaskList}
 use Rattle.tasks.specs.declared.Bounds.the-variants.{Kept, Broken}
 use Rattle.tasks.specs.List.{planOf}
 use Rattle.tasks.specs.Bounds.{boundsOf, cycleOf}
-use Rattle.tasks.specs.Kept.{plan-monotonic}
 use Rattle.verdict.specs.declared.Sim.{Sim}
 use Rattle.verdict.specs.declared.Late.{Late}
 use Rattle.verdict.specs.declared.Verdict.{Verdict}
@@ -26,7 +25,7 @@ use Rattle.verdict.specs.Table.{fitted, tabled, Built}
 use Rattle.verdict.specs.Deadlines.{late-tells, missed-lacks, missing-is}
 use Rattle.verdict.specs.Answers.{accepted-tells}
 use Rattle.verdict.specs.Shapes.{Bounded, Within, periodIn, simOf, marginIn, tightestOf, judgedBy, verdictBy}
-use Rattle.verdict.specs.Simulation.{sim-within, late-is, entry-is}
+use Rattle.verdict.specs.Simulation.{sound, sim-within, late-is, entry-is}
 use Rattle.verdict.specs.Judged.{tightest-below, verdict-is}
 
 -- ---- the verdict of a list that keeps all bounds
@@ -38,11 +37,11 @@ module _ (l : TaskList) (B : Bounded l) (cycle : ℕ) (sim : Sim) (at : sim ≡ 
   unfolding planOf
   short-within nz =
       let same : sim .late ≡ lateness (planOf l) cycle = ap (λ (s : Sim). s .late) at ∙ late-is l B cycle in
-      let i : ℕ = sim .late .task - 1 in
-      let is : lateness (planOf l) cycle .task ≡ suc (sim .late .task - 1) = ap (λ (x : Late). x .task) (sym same) ∙ omega arith in
-      let m = late-tells (planOf l) (plan-monotonic l (B .supply) (B .keeps) .sound) cycle (sim .late .task - 1) is in
-      let fits = B .keeps .fits (sim .late .task - 1) (missed-lacks (planOf l) (m .slice) (sim .late .task - 1) (m .missed) .0) in
-      omega (arith, ap (λ (x : Late). x .short) same, m .lacks, missing-is (planOf l) (m .slice) (sim .late .task - 1) (missed-lacks (planOf l) (m .slice) (sim .late .task - 1) (m .missed) .1) .1, fits .runtime-to, fits .period-to)
+      let task : lateness (planOf l) cycle .task ≡ suc (sim .late .task - 1) = ap (λ (x : Late). x .task) (sym same) ∙ omega arith in
+      let m = late-tells (planOf l) (sound l B) cycle (sim .late .task - 1) task in
+      let lacks = missed-lacks (planOf l) (m .slice) (sim .late .task - 1) (m .missed) in
+      let fits = B .keeps .fits (sim .late .task - 1) (lacks .0) in
+      omega (arith, ap (λ (x : Late). x .short) same, m .lacks, missing-is (planOf l) (m .slice) (sim .late .task - 1) (lacks .1) .1, fits .runtime-to, fits .period-to)
 
   pub judged-late : (jobs : ℕ) (z : ℤ) → (sim .late .task ≡ 0 → ⊥) → z ≡ subℕ 0 (sim .late .short) → Refused 7 (sim .late .task) z ≡ judgedBy l cycle jobs (simOf l cycle)
   unfolding judgedBy

@@ -1,4 +1,5 @@
--- The verdict on a task list and its table: the paper's definitions (Lateness, Margin, Verdict, Table), the laws of lateness, and the simulation.
+-- The verdict on a task list and its table: the paper's definitions (Lateness, Margin, Verdict, Table), what they tell (Deadlines,
+-- Ends, Answers), and the simulation that the code is (Shapes), tied to them (Simulation, Judged).
 pub mod Lateness
 pub mod Margin
 pub mod Verdict
