@@ -23,6 +23,12 @@ unfolding choose
 choose-no true x y h = cc
 choose-no false x y h = refl
 
+-- what holds of both holds of the one chosen
+pub choose-either : {A : Type 0} (Q : A → Type 0) (b : Bool) (x y : A) → Q x → Q y → Q (choose b x y)
+unfolding choose
+choose-either Q true x y p q = p
+choose-either Q false x y p q = q
+
 -- the same laws as a return of a branch asks them
 pub yes-so : {A : Type 0} (b : Bool) (r x y : A) → b ≡ true → r ≡ x → r ≡ choose b x y
 yes-so b r x y h e = e ∙ sym (choose-yes b x y h)

@@ -4,3 +4,4 @@ pub mod Sum
 pub mod Slices
 pub mod Least
 pub mod Bytes
+pub mod Signed

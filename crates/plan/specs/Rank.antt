@@ -1,7 +1,7 @@
 -- The scan's law: which entry `first` gives, that no other entry is so, and rank as one number.
 use mathlib.Core.Path.{_≡_, refl, sym, ap, _∙_}
 use mathlib.Core.Bool.{true, false, true≢false}
-use mathlib.Core.Logic.{_⊎_, inl, inr, ⊎-elim}
+use mathlib.Core.Logic.{inl, inr, ⊎-elim}
 use Prim.Native.Nat.{ℕ, zero, suc, _+_, _*_, _≤_, _<_}
 use native.Mathlib.Omega.{arith}
 use native.Mathlib.Nat.{mul-le-mul-right, suc-inj}
@@ -27,7 +27,7 @@ module _ (key : ℕ → ℕ) where
   unfolding ranksBefore
   equal-keys-by-place i j e = rw (le-ltb (key i) (key j) (omega arith), eq-eqb (key i) (key j) e)
 
-  later-place-later : (i j : ℕ) → key j ≤ key i → j ≤ i → ranksBefore key i j ≡ false
+  pub later-place-later : (i j : ℕ) → key j ≤ key i → j ≤ i → ranksBefore key i j ≡ false
   later-place-later i j l lj =
       ⊎-elim
       (λ (e : key i ≡ key j). equal-keys-by-place i j e ∙ le-ltb i j lj)
@@ -174,3 +174,6 @@ module _ (key key′ wants wants′ : ℕ → ℕ) (n : ℕ)
 
   pub first-same : first key wants n ≡ first key′ wants′ n
   first-same = first-is key′ wants′ n (first key wants n) (same-law (first key wants n) (first-law key wants n))
+
+pub first-ext : (key key′ wants wants′ : ℕ → ℕ) (n : ℕ) → ((i : ℕ) → i < n → key i ≡ key′ i) → ((i : ℕ) → i < n → wants i ≡ wants′ i) → first key wants n ≡ first key′ wants′ n
+first-ext key key′ wants wants′ n keys e = first-same key key′ wants wants′ n keys (λ i l z. sym (e i l) ∙ z) (λ i l z. e i l ∙ z)

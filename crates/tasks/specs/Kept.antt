@@ -8,7 +8,7 @@ use native.Mathlib.Omega.{arith}
 use native.Mathlib.Nat.{one-dvd, dvd-trans, le-of-dvd, pos-of-ne-zero}
 use lib.Dec.{ltb, eqb}
 use borrow.Author.Tests.{lt-ltb, le-ltb, ltb-false, eq-eqb, ne-eqb, eqb-false}
-use Rattle.basis.specs.Choose.{choose, choose-yes, choose-no, le-or-lt, eq-or-ne, below-suc}
+use Rattle.basis.specs.Choose.{choose, choose-yes, choose-no, choose-either, le-or-lt, eq-or-ne, below-suc}
 use Rattle.basis.specs.Sum.{sum-grows}
 use Rattle.tasks.specs.declared.Task.{Task}
 use Rattle.tasks.specs.declared.TaskList.{TaskList}
@@ -281,32 +281,35 @@ kept-tells l supply cycle jobs e =
     absurd (omega arith))
     (eq-or-ne (found l supply .number) 0)
 
--- ---- numbers of refusal
--- No number of refusal that is found is above 6.
-else-most : (f g : Finding) (m : ℕ) → f .number ≤ m → g .number ≤ m → (f orElse g) .number ≤ m
-else-most f g m a b =
-    ⊎-elim
-    (λ (z : f .number ≡ 0). omega (arith, ap (λ (x : Finding). x .number) (else-found f g z)))
-    (λ (nz : f .number ≡ 0 → ⊥). omega (arith, ap (λ (x : Finding). x .number) (else-kept f g nz)))
-    (eq-or-ne (f .number) 0)
+-- ---- the numbers of refusal here are 1 to 6
+abbrev pub UpTo6 : Finding → Type 0
+UpTo6 f = f .number ≤ 6
 
-first-most : (find : ℕ → Finding) (m : ℕ) → ((i : ℕ) → find i .number ≤ m) → (n : ℕ) → firstFound find n .number ≤ m
-unfolding firstFound none refusal
-first-most find m h zero = omega arith
-first-most find m h (suc n) = else-most (firstFound find n) (find n) m (first-most find m h n) (h n)
+first-to-6 : (find : ℕ → Finding) → ((i : ℕ) → UpTo6 (find i)) → (n : ℕ) → UpTo6 (firstFound find n)
+unfolding firstFound _orElse_ none refusal
+first-to-6 find h zero = omega arith
+first-to-6 find h (suc n) = choose-either UpTo6 _ _ _ (h n) (first-to-6 find h n)
 
-test-most : (b : Bool) (k t m : ℕ) (f : Finding) → k ≤ m → f .number ≤ m → choose b (refusal k t) f .number ≤ m
-unfolding refusal choose
-test-most true k t m f a b = a
-test-most false k t m f a b = b
-
-pub found-most : (l : TaskList) (supply : ℕ) → found l supply .number ≤ 6
-unfolding found ofCount ofTask ofNumbers ofMemory ofCycle
+pub found-most : (l : TaskList) (supply : ℕ) → UpTo6 (found l supply)
+unfolding found _orElse_ ofCount ofTask ofNumbers ofMemory ofCycle none refusal
 found-most l supply =
-    else-most _ _ 6 (test-most _ 1 0 6 _ (omega arith) (test-most _ 2 0 6 none (omega arith) none-most))
-    (else-most _ _ 6 (first-most (ofTask (l .tasks)) 6 (λ i. test-most _ 3 (suc i) 6 _ (omega arith) (test-most _ 4 (suc i) 6 none (omega arith) none-most)) (l .count))
-    (else-most _ _ 6 (first-most (ofMemory (l .tasks) supply) 6 (λ i. test-most _ 5 (suc i) 6 none (omega arith) none-most) (l .count))
-    (first-most (ofCycle (l .tasks)) 6 (λ i. test-most _ 6 (suc i) 6 none (omega arith) none-most) (l .count))))
-  where
-    none-most : none .number ≤ 6
-    none-most = omega (arith, none-is-none)
+    choose-either UpTo6 _ _ _
+    (choose-either UpTo6 _ _ _
+    (choose-either UpTo6 _ _ _
+    (first-to-6 _ (λ i. choose-either UpTo6 _ _ _ (omega arith) (omega arith)) (l .count))
+    (first-to-6 _ (λ i. choose-either UpTo6 _ _ _ (omega arith) (omega arith)) (l .count)))
+    (first-to-6 _ (λ i. choose-either UpTo6 _ _ _ (omega arith) (choose-either UpTo6 _ _ _ (omega arith) (omega arith))) (l .count)))
+    (choose-either UpTo6 _ _ _ (omega arith) (choose-either UpTo6 _ _ _ (omega arith) (omega arith)))
+
+pub broken-number : (l : TaskList) (supply number task : ℕ) → boundsOf l supply ≡ Broken number task → number ≤ 6
+broken-number l supply number task e =
+    ⊎-elim
+    (λ (z : found l supply .number ≡ 0).
+    let never : Broken number task ≡ Kept (cycleOf l) (jobsOf l) = sym e ∙ bounds-kept l supply (nothing-found l supply .0 z) in
+    let zero-one : _≡_ {A = ℕ} 0 1 = cc in
+    absurd (omega arith))
+    (λ (nz : found l supply .number ≡ 0 → ⊥).
+    let same : Broken number task ≡ Broken (found l supply .number) (found l supply .task) = sym e ∙ bounds-broken l supply nz in
+    let n : number ≡ found l supply .number = cc in
+    omega (arith, found-most l supply))
+    (eq-or-ne (found l supply .number) 0)

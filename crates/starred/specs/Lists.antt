@@ -1,0 +1,72 @@
+-- The starred lists, and what the verdict and table building say of each, together in one statement.
+use mathlib.Core.Path.{_≡_}
+use mathlib.Core.List.{List, [], _∷_, _++_}
+use Prim.Native.Nat.{ℕ, _-_}
+use lib.IntN.{ℤ, pos, subℕ}
+use lib.ListN.{length, replicate}
+use Rattle.tasks.specs.declared.Task.{Task}
+use Rattle.tasks.specs.declared.TaskList.{TaskList}
+use Rattle.tasks.specs.List.{noTask}
+use Rattle.verdict.specs.Verdict.{verdictOf, Numbers, numbers}
+use Rattle.verdict.specs.Table.{tabled}
+
+-- Written (period, run-time), memory 0.
+unfoldable pub task : ℕ → ℕ → Task
+task period runtime = record { period = period; runtime = runtime; memory = 0 }
+
+unfoldable pub listed : List Task → TaskList
+listed ts = record { tasks = ts ++ replicate (16 - length ts) noTask; count = length ts }
+
+-- Refusal number (0: accepted), task, margin, cycle and job count of a list, with a supply of 0.
+unfoldable pub verdict : List Task → Numbers
+verdict ts = numbers (verdictOf (listed ts) 0)
+
+-- What table building leaves in n bytes that all held 255.
+unfoldable pub entries : List Task → ℕ → List ℕ
+entries ts n = tabled (listed ts) (verdictOf (listed ts) 0) (replicate n 255)
+
+unfoldable pub accepted : ℕ → ℤ → ℕ → ℕ → Numbers
+accepted task margin cycle jobs = record { number = 0; task = task; signed = margin; cycle = cycle; jobs = jobs }
+
+unfoldable pub late : ℕ → ℤ → Numbers
+late task margin = record { number = 7; task = task; signed = margin; cycle = 0; jobs = 0 }
+
+unfoldable pub A : List Task
+A = task 4 1 ∷ task 6 2 ∷ task 12 3 ∷ []
+
+unfoldable pub B : List Task
+B = task 2 1 ∷ task 3 1 ∷ task 6 1 ∷ []
+
+unfoldable pub C : List Task
+C = task 4 2 ∷ task 6 3 ∷ []
+
+unfoldable pub D : List Task
+D = task 5 2 ∷ task 7 4 ∷ []
+
+unfoldable pub E : List Task
+E = task 1 1 ∷ []
+
+unfoldable pub F : List Task
+F = task 3 1 ∷ task 3 2 ∷ []
+
+unfoldable pub G : List Task
+G = task 6 2 ∷ task 4 1 ∷ []
+
+unfoldable pub H : List Task
+H = task 4 2 ∷ task 5 3 ∷ []
+
+-- The starred lists: the verdict on each, and the table of those for which the paper gives one.
+pub record Starred : Type 0 where
+  pub verdict-A : verdict A ≡ accepted 3 (pos 2) 12 6
+  pub table-A : entries A 12 ≡ 1 ∷ 2 ∷ 2 ∷ 3 ∷ 1 ∷ 3 ∷ 2 ∷ 2 ∷ 1 ∷ 3 ∷ 0 ∷ 0 ∷ []
+  pub verdict-B : verdict B ≡ accepted 3 (pos 0) 6 6
+  pub table-B : entries B 6 ≡ 1 ∷ 2 ∷ 1 ∷ 2 ∷ 1 ∷ 3 ∷ []
+  pub verdict-C : verdict C ≡ late 2 (subℕ 0 1)
+  pub verdict-D : verdict D ≡ late 2 (subℕ 0 1)
+  pub verdict-E : verdict E ≡ accepted 1 (pos 0) 1 1
+  pub table-E : entries E 1 ≡ 1 ∷ []
+  pub verdict-F : verdict F ≡ accepted 2 (pos 0) 3 2
+  pub table-F : entries F 3 ≡ 1 ∷ 2 ∷ 2 ∷ []
+  pub verdict-G : verdict G ≡ accepted 2 (pos 3) 12 5
+  pub table-G : entries G 12 ≡ 2 ∷ 1 ∷ 1 ∷ 0 ∷ 2 ∷ 0 ∷ 1 ∷ 1 ∷ 2 ∷ 0 ∷ 0 ∷ 0 ∷ []
+  pub verdict-H : verdict H ≡ late 2 (subℕ 0 1)

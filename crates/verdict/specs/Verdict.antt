@@ -1,0 +1,44 @@
+-- The verdict: the first refusal that applies, of 1 to 7; or accepted.
+use Prim.Native.Nat.{ℕ, suc}
+use lib.Dec.{eqb}
+use lib.IntN.{ℤ, pos, subℕ}
+use Rattle.basis.specs.Choose.{choose}
+use Rattle.plan.specs.Plan.{Plan}
+use Rattle.tasks.specs.declared.TaskList.{TaskList}
+use Rattle.tasks.specs.declared.Bounds.{Bounds}
+use Rattle.tasks.specs.declared.Bounds.the-variants.{Kept, Broken}
+use Rattle.tasks.specs.List.{planOf}
+use Rattle.tasks.specs.Bounds.{boundsOf}
+use Rattle.verdict.specs.declared.Verdict.{Verdict}
+use Rattle.verdict.specs.declared.Verdict.the-variants.{Accepted, Refused}
+use Rattle.verdict.specs.declared.Late.{Late}
+use Rattle.verdict.specs.Lateness.{lateness}
+use Rattle.verdict.specs.Margin.{margin, tightest}
+
+-- Refused for lateness, with what the job had received less its run-time; or accepted with the tightest task and its margin.
+unfoldable pub judged : Plan → ℕ → ℕ → Late → Verdict
+judged P cycle jobs late =
+    choose (eqb (late .task) 0)
+    (Accepted cycle jobs (suc (tightest P (P .count))) (pos (margin P (tightest P (P .count)))))
+    (Refused 7 (late .task) (subℕ 0 (late .short)))
+
+-- Refusals 1 to 6 come first, with margin 0; then the slice rule over the cycle decides.
+unfoldable pub verdictFrom : TaskList → Bounds → Verdict
+verdictFrom l (Broken number task) = Refused number task (pos 0)
+verdictFrom l (Kept cycle jobs) = judged (planOf l) cycle jobs (lateness (planOf l) cycle)
+
+unfoldable pub verdictOf : TaskList → ℕ → Verdict
+verdictOf l supply = verdictFrom l (boundsOf l supply)
+
+-- ---- the paper's number and values for each case
+-- Refusal number (0: accepted), task, margin, cycle and job count. Refused, cycle and job count are 0.
+pub record Numbers : Type 0 where
+  pub number : ℕ
+  pub task : ℕ
+  pub signed : ℤ
+  pub cycle : ℕ
+  pub jobs : ℕ
+
+unfoldable pub numbers : Verdict → Numbers
+numbers (Accepted cycle jobs task margin) = record { number = 0; task = task; signed = margin; cycle = cycle; jobs = jobs }
+numbers (Refused number task margin) = record { number = number; task = task; signed = margin; cycle = 0; jobs = 0 }
