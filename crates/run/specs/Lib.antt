@@ -1,0 +1,4 @@
+-- A run as the paper gives it: the state, who runs, and the step.
+pub mod State
+pub mod Who
+pub mod Step
