@@ -1,9 +1,37 @@
--- A list that is written over from the front.
+-- A list that is written over from the front, and its laws.
+use mathlib.Core.Path.{_≡_, refl, sym, ap, _∙_}
 use mathlib.Core.List.{List}
-use Prim.Native.Nat.{ℕ, zero, suc}
-use lib.ListN.{set}
+use mathlib.Core.Logic.{⊎-elim}
+use Prim.Native.Nat.{ℕ, zero, suc, _≤_, _<_}
+use native.Mathlib.Omega.{arith}
+use lib.ListN.{length, getD, set, length-set}
+use lib.Seq.{getD-set-same, getD-set-other}
+use Rattle.basis.specs.Choose.{below-suc}
 
 -- The first n elements are f 0, f 1, .. and the others as they were.
 unfoldable pub overwrite : {A : Type 0} → (ℕ → A) → ℕ → List A → List A
 overwrite f zero old = old
 overwrite f (suc n) old = set (overwrite f n old) n (f n)
+
+module _ {A : Type 0} (f : ℕ → A) (old : List A) where
+  pub overwrite-length : (n : ℕ) → length (overwrite f n old) ≡ length old
+  unfolding overwrite
+  overwrite-length zero = refl
+  overwrite-length (suc n) = length-set (overwrite f n old) n (f n) ∙ overwrite-length n
+
+  -- From n on nothing changes,
+  pub overwrite-kept : (d : A) (n i : ℕ) → n ≤ i → getD (overwrite f n old) i d ≡ getD old i d
+  unfolding overwrite
+  overwrite-kept d zero i l = refl
+  overwrite-kept d (suc n) i l = getD-set-other (overwrite f n old) n i (f n) d (λ e. omega arith) ∙ overwrite-kept d n i (omega arith)
+
+  -- and below n, where the list reaches that far, stand the values of f.
+  pub overwrite-at : (d : A) (n i : ℕ) → i < n → i < length old → getD (overwrite f n old) i d ≡ f i
+  unfolding overwrite
+  overwrite-at d zero i l k = absurd (omega arith)
+  overwrite-at d (suc n) i l k =
+      ⊎-elim
+      (λ (b : i < n). getD-set-other (overwrite f n old) n i (f n) d (λ e. omega arith) ∙ overwrite-at d n i b k)
+      (λ (e : i ≡ n).
+      ap (λ (x : ℕ). getD (overwrite f (suc n) old) x d) e ∙ getD-set-same (overwrite f n old) n (f n) d (omega (arith, overwrite-length n)) ∙ sym (ap f e))
+      (below-suc i n l)
