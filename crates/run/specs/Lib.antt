@@ -4,3 +4,6 @@ pub mod Sound
 pub mod Places
 pub mod Who
 pub mod Step
+pub mod Accepted
+pub mod StateAfter
+pub mod LogAfter

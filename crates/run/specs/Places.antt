@@ -1,5 +1,5 @@
 -- How the jobs of a sound state lie in the log: every current job within it, no two jobs at one place.
-use mathlib.Core.Path.{_≡_, refl, ap}
+use mathlib.Core.Path.{_≡_, refl}
 use Prim.Native.Nat.{ℕ, suc, _+_, _*_, _/_, _≤_, _<_}
 use native.Mathlib.Omega.{arith}
 use native.Mathlib.Nat.{div-lt-iff-lt-mul, div-mul-cancel, div-le-self}

@@ -5,7 +5,7 @@ use mathlib.Core.Logic.{⊎-elim, _↔_}
 use Prim.Native.Nat.{ℕ, zero, suc, _%_, _≤_, _<_, _∣_}
 use native.Mathlib.Omega.{arith}
 use native.Mathlib.Nat.{dvd-iff-mod-eq-zero}
-use lib.Dec.{leb, ltb, eqb}
+use lib.Dec.{leb, ltb}
 use lib.ListN.{getD}
 use borrow.Author.Tests.{leb-true, le-leb, ltb-true, lt-ltb, eqb-true, eq-eqb}
 use Rattle.basis.specs.Choose.{below-suc}

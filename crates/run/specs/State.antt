@@ -1,5 +1,4 @@
 -- The state of a run: its tasks and their current jobs, when it is sound, and where a job's byte stands in the log.
-use mathlib.Core.List.{List}
 use mathlib.Core.Bool.{Bool, true, false, _&&_, _||_}
 use Prim.Native.Nat.{ℕ, zero, suc, _+_, _/_, _%_}
 use lib.Dec.{leb, ltb, eqb}

@@ -1,7 +1,7 @@
 -- The step that closes the slice at the state's position: refusals 9 to 14, the log and the next state.
 use mathlib.Core.Path.{_≡_}
 use mathlib.Core.List.{List}
-use mathlib.Core.Bool.{Bool, true, false, not, _&&_, _||_}
+use mathlib.Core.Bool.{not, _&&_, _||_}
 use Prim.Native.Nat.{ℕ, zero, suc, _+_, _%_, _^_}
 use lib.Dec.{ltb, eqb}
 use lib.ListN.{length, set}
