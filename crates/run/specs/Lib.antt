@@ -7,3 +7,4 @@ pub mod Step
 pub mod Accepted
 pub mod StateAfter
 pub mod LogAfter
+pub mod Shapes

@@ -1,4 +1,8 @@
 // A run of one cycle: its state, who runs, and the step that closes a slice.
+mod sound; // refusal 9
+mod ask; // who runs, and refusals 9 to 11
+mod close; // refusals 12 to 14, and what a slice does
+
 ghost use mathlib.Core.Path.{_≡_};
 ghost use Rattle.run.specs.Who.{whoOf};
 ghost use Rattle.run.specs.Step.{Stepped};
@@ -54,15 +58,40 @@ pub struct Next {
 pub fn who(state: State, table: &[u8]) -> Runner
     ensures { λ r. ⌜ r ≡ whoOf state (now (table .entry)) ⌝ }
 {
-    Runner::Idle
+    let refused = ask::who_refusal(state, table);
+    if refused != 0 {
+        return Runner::Refused(refused);
+    }
+    let entry = ask::running(state, table);
+    if entry == 0 {
+        return Runner::Idle;
+    }
+    Runner::Task(entry)
 }
 
 // Closes a slice: the clock reading and the report of the job that ran in it.
 pub fn step(state: State, table: &[u8], log: &mut [u8], clock: u32, report: u8) -> Next
     ensures { λ r. ⌜ Stepped state (now (table .entry)) clock report (now (log .entry)) (now (log .exit)) r ⌝ }
 {
+    let asked = ask::who_refusal(state, table);
+    if asked != 0 {
+        return Next {
+            answer: Closed::Refused(asked),
+            state,
+        };
+    }
+    let ran = ask::running(state, table);
+    let found = close::step_refusal(state, log.len(), ran, clock, report);
+    if found != 0 {
+        return Next {
+            answer: Closed::Refused(found),
+            state,
+        };
+    }
+    close::mark_result(state, ran, report, log);
+    close::mark_late(state, ran, report, log);
     Next {
-        answer: Closed::Refused(9),
-        state,
+        answer: Closed::Accepted,
+        state: close::state_after(state, ran, clock, report),
     }
 }
