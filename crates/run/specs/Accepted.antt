@@ -40,7 +40,16 @@ pub record StepAccepted (s : State) (table : List ℕ) (clock report : ℕ) (log
   pub report-to : report ≤ 1
   pub finished-by : report ≡ 1 → 0 < running s table
 
--- ---- numbers of refusal that are 0
+-- ---- numbers of refusal
+pub next-asked : (m n : ℕ) → m ≡ 0 → orNext m n ≡ n
+unfolding orNext
+next-asked m n z = rw z
+
+pub next-spared : (m n : ℕ) → (m ≡ 0 → ⊥) → orNext m n ≡ m
+unfolding orNext
+next-spared zero n nz = absurd (nz refl)
+next-spared (suc m) n nz = refl
+
 pub next-none : (m n : ℕ) → (orNext m n ≡ 0) ↔ ((m ≡ 0) × (n ≡ 0))
 unfolding orNext
 next-none zero n = (λ e. (refl, e), λ h. h .1)

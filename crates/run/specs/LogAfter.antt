@@ -60,7 +60,7 @@ either-here false b log k v w l = put-here b log k w l
 
 -- ---- done and over
 module _ (s : State) (report : ℕ) (log : List ℕ) where
-  result-length : (ran : ℕ) → length (withResult s ran report log) ≡ length log
+  pub result-length : (ran : ℕ) → length (withResult s ran report log) ≡ length log
   unfolding withResult resultOf
   result-length zero = refl
   result-length (suc i) = either-length _ _ log (place s i) 1 2
@@ -80,7 +80,7 @@ unfoldable isLate : State → ℕ → ℕ → ℕ → Bool
 isLate s ran report i = lastSlice s i && not (afterSlice s ran report i .ended)
 
 module _ (s : State) (ran report : ℕ) (log : List ℕ) where
-  late-length : (n : ℕ) → length (withLate s ran report log n) ≡ length log
+  pub late-length : (n : ℕ) → length (withLate s ran report log n) ≡ length log
   unfolding withLate
   late-length zero = refl
   late-length (suc n) = put-length (lastSlice s n && not (afterSlice s ran report n .ended)) (withLate s ran report log n) (place s n) 3 ∙ late-length n

@@ -43,7 +43,7 @@ both-and : (a b : Bool) → a ≡ true → b ≡ true → (a && b) ≡ true
 both-and a b ea eb = rw ea eb
 
 module _ (low high x : ℕ) where
-  within-tells : within low high x ≡ true → (low ≤ x) × (x ≤ high)
+  pub within-tells : within low high x ≡ true → (low ≤ x) × (x ≤ high)
   unfolding within
   within-tells e = let h = and-both (leb low x) (leb x high) e in (leb-true low x (h .0), leb-true x high (h .1))
 

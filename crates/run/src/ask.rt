@@ -26,7 +26,11 @@ fn entry_at(table: &[u8], slice: u32) -> usize
     ensures { λ r. ⌜ r ≡ getD (now (table .entry)) slice 0 ⌝ }
 {
     let at = slice as usize;
-    if at < table.len() { table[at] as usize } else { 0 }
+    if at < table.len() {
+        table[at] as usize
+    } else {
+        0
+    }
 }
 
 fn refusal_11(state: State, table: &[u8]) -> u32
@@ -52,7 +56,10 @@ fn refusal_11(state: State, table: &[u8]) -> u32
 pub(crate) fn who_refusal(state: State, table: &[u8]) -> u32
     ensures { λ r. ⌜ r ≡ whoRefusal state (now (table .entry)) ⌝ }
 {
-    or_next(refusal_9(state), or_next(refusal_10(state), refusal_11(state, table)))
+    or_next(
+        refusal_9(state),
+        or_next(refusal_10(state), refusal_11(state, table)),
+    )
 }
 
 fn unless_ended(state: State, entry: usize) -> usize
@@ -81,10 +88,16 @@ fn better_of(best: Best, i: usize, period: u32, ended: bool) -> Best
         return best;
     }
     if best.entry == 0 {
-        return Best { entry: i + 1, period };
+        return Best {
+            entry: i + 1,
+            period,
+        };
     }
     if period < best.period {
-        return Best { entry: i + 1, period };
+        return Best {
+            entry: i + 1,
+            period,
+        };
     }
     best
 }
@@ -96,7 +109,10 @@ fn first_open(state: State) -> usize
     let tasks = state.tasks;
     let jobs = state.jobs;
     let count = state.count;
-    let mut best = Best { entry: 0, period: 0 };
+    let mut best = Best {
+        entry: 0,
+        period: 0,
+    };
     let mut i = 0;
     while i < count {
         let task = tasks[i];

@@ -1,14 +1,13 @@
 // What closing a slice does, and refusals 12 to 14.
 ghost use mathlib.Core.Path.{_≡_};
-ghost use mathlib.Core.Bool.{Bool, not, _&&_};
+ghost use mathlib.Core.Bool.{not, _&&_};
 ghost use Prim.Native.Nat.{_+_, _≤_, _<_};
 ghost use lib.ListN.{length, set};
 ghost use lib.Dec.{ltb, eqb};
 ghost use Rattle.basis.specs.Choose.{choose};
 ghost use Rattle.basis.specs.Bytes.{overwrite};
-ghost use Rattle.run.specs.State.{offset, place, lastSlice, jobCount};
-ghost use Rattle.run.specs.Who.{orNext};
-ghost use Rattle.run.specs.Step.{nextClock, of13, of14, afterSlice, jobAfter, withResult, withLate, stateAfter};
+ghost use Rattle.run.specs.State.{offset, place, lastSlice};
+ghost use Rattle.run.specs.Step.{of13, of14, afterSlice, jobAfter, withResult, withLate, stateAfter};
 ghost use Rattle.run.specs.Sound.{SoundState};
 ghost use Rattle.run.specs.Shapes.{sliceOf, twelveOn, Closes};
 use crate::Job;
@@ -51,7 +50,11 @@ fn refusal_12(jobs: usize, length: usize) -> u32
 fn refusal_13(state: State, clock: u32) -> u32
     ensures { λ r. ⌜ r ≡ of13 state clock ⌝ }
 {
-    if clock == std::num::wrapping_add_u32(state.clock, 1) { 0 } else { 13 }
+    if clock == std::num::wrapping_add_u32(state.clock, 1) {
+        0
+    } else {
+        13
+    }
 }
 
 fn refusal_14(ran: usize, report: u8) -> u32
@@ -71,7 +74,10 @@ pub(crate) fn step_refusal(state: State, length: usize, ran: usize, clock: u32, 
     ensures { λ r. ⌜ r ≡ twelveOn state length ran clock report ⌝ }
 {
     let jobs = offset(state, state.count);
-    or_next(refusal_12(jobs, length), or_next(refusal_13(state, clock), refusal_14(ran, report)))
+    or_next(
+        refusal_12(jobs, length),
+        or_next(refusal_13(state, clock), refusal_14(ran, report)),
+    )
 }
 
 fn slice_of(job: Job, runtime: u32, here: bool, report: u8) -> Job
@@ -85,7 +91,10 @@ fn slice_of(job: Job, runtime: u32, here: bool, report: u8) -> Job
     if report == 1 {
         return Job { used, ended: true };
     }
-    Job { used, ended: used == runtime }
+    Job {
+        used,
+        ended: used == runtime,
+    }
 }
 
 // The job of task i when the slice is closed, before a fresh one takes its place.
@@ -171,7 +180,10 @@ fn job_after(state: State, ran: usize, report: u8, i: usize) -> Job
     ensures { λ r. ⌜ r ≡ jobAfter state ran report i ⌝ }
 {
     if last_slice(state, i) {
-        return Job { used: 0, ended: false };
+        return Job {
+            used: 0,
+            ended: false,
+        };
     }
     after_slice(state, ran, report, i)
 }

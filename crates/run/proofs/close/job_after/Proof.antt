@@ -1,0 +1,25 @@
+-- `run::close::job_after` meets its contract.
+use mathlib.Core.Path.{refl, sym, _∙_}
+use Rattle.basis.specs.Choose.{yes-so, no-so}
+use Rattle.run.specs.State.{fresh}
+use Rattle.run.specs.Step.{jobAfter}
+use borrow.Author.Needs.{needs}
+use Rattle.run.proofs.close.job_after.Statement.{statement}
+use Rattle.run.proofs.close.job_after.Tie as tie
+
+last-slice-requires : tie.Need-last-slice-requires
+last-slice-requires c κs = search needs
+
+returns : tie.Need-returns
+unfolding jobAfter fresh
+returns c = yes-so _ _ _ _ (sym (c .before .last-slice .ensures) ∙ c .if1 .taken) refl
+
+after-slice-requires : tie.Need-after-slice-requires
+after-slice-requires c κs = search needs
+
+returns-2 : tie.Need-returns-2
+unfolding jobAfter
+returns-2 c = no-so _ _ _ _ (sym (c .before .before .last-slice .ensures) ∙ c .before .if1 .left) (c .after-slice .ensures)
+
+pub job-after-spec : {M : Type 1} → statement M
+job-after-spec = tie.close (tie.spec last-slice-requires returns after-slice-requires returns-2)

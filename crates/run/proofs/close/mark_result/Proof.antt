@@ -1,0 +1,63 @@
+-- `run::close::mark_result` meets its contract.
+use Prim.Native.Nat.{_-_}
+use native.Mathlib.Omega.{arith}
+use Rattle.run.specs.State.{noTiming, fresh, runtimeOf, jobOf}
+use Rattle.run.specs.Places.{place-within}
+use Rattle.run.proofs.Turns.{no-result, its-result}
+use borrow.Author.Needs.{needs}
+use Rattle.run.proofs.close.mark_result.Statement.{statement}
+use Rattle.run.proofs.close.mark_result.Tie as tie
+
+returns : tie.Need-returns
+returns c = no-result _ _ _ _ (c .if1 .taken)
+
+sub-i : tie.Need-sub-i
+sub-i c = search needs
+
+mul-task : tie.Need-mul-task
+mul-task c = search needs
+
+array-copy-out-task : tie.Need-array-copy-out-task
+array-copy-out-task c = search needs
+
+mul-job : tie.Need-mul-job
+mul-job c = search needs
+
+array-copy-out-job : tie.Need-array-copy-out-job
+array-copy-out-job c = search needs
+
+add-used : tie.Need-add-used
+unfolding runtimeOf jobOf noTiming fresh
+add-used c =
+    let T = c .before .before .before .before .before .before .before .pre .is-sound .tasks-sound (c .before .before .before .before .before .before .before .args .ran - 1) (omega arith) in
+    omega (arith, T .used-to, T .runtime-to, T .period-to)
+
+place-requires : tie.Need-place-requires
+place-requires c κs = search needs
+
+write-result-requires : tie.Need-write-result-requires
+write-result-requires c κs =
+    omega (arith, c .before .place .ensures, c .before .before .before .before .before .before .before .before .before .before .pre .log-from, place-within _ (c .before .before .before .before .before .before .before .before .before .before .pre .is-sound) (c .before .before .before .before .before .before .before .before .before .before .pre .not-over) (c .before .before .before .before .before .before .before .before .before .before .args .ran - 1) (omega arith))
+
+same-length : tie.Need-same-length
+same-length c = search needs
+
+returns-2 : tie.Need-returns-2
+unfolding runtimeOf jobOf noTiming fresh
+returns-2 c = its-result _ _ _ _ _ _ (c .before .before .before .before .before .before .before .before .before .before .before .if1 .left) (c .before .before .before .before .place .ensures) (c .before .before .write-result .ensures)
+
+pub mark-result-spec : {M : Type 1} → statement M
+mark-result-spec =
+    tie.close
+    (tie.spec
+    returns
+    sub-i
+    mul-task
+    array-copy-out-task
+    mul-job
+    array-copy-out-job
+    add-used
+    place-requires
+    write-result-requires
+    same-length
+    returns-2)

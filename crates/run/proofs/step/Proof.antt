@@ -1,0 +1,52 @@
+-- `run::step` meets its contract: each way out answers as the laws of Answers say.
+use Rattle.run.proofs.Answers.{may-ask, step-not-asked, step-refused, may-mark, may-mark-late, step-done}
+use borrow.Author.Needs.{needs}
+use Rattle.run.proofs.step.Statement.{statement}
+use Rattle.run.proofs.step.Tie as tie
+
+who-refusal-requires : tie.Need-who-refusal-requires
+who-refusal-requires c κs = search needs
+
+returns : tie.Need-returns
+returns c = step-not-asked _ _ _ _ _ _ (c .before .who-refusal .ensures) (c .if1 .taken)
+
+running-requires : tie.Need-running-requires
+running-requires c κs = may-ask _ _ _ (c .before .who-refusal .ensures) (c .if1 .left)
+
+step-refusal-requires : tie.Need-step-refusal-requires
+step-refusal-requires c κs = may-ask _ _ _ (c .before .before .who-refusal .ensures) (c .before .if1 .left) .is-sound
+
+returns-2 : tie.Need-returns-2
+returns-2 c = step-refused _ _ _ _ _ _ (c .before .before .before .before .who-refusal .ensures) (c .before .before .before .if1 .left) _ (c .before .before .running .ensures) _ (c .before .step-refusal .ensures) (c .if2 .taken)
+
+mark-result-requires : tie.Need-mark-result-requires
+mark-result-requires c κs = may-mark _ _ _ _ _ _ (c .before .before .before .before .before .who-refusal .ensures) (c .before .before .before .before .if1 .left) _ (c .before .before .before .running .ensures) _ (c .before .before .step-refusal .ensures) (c .before .if2 .left)
+
+mark-late-requires : tie.Need-mark-late-requires
+mark-late-requires c κs = may-mark-late _ _ _ _ _ _ (c .before .before .before .before .before .before .before .before .before .who-refusal .ensures) (c .before .before .before .before .before .before .before .before .if1 .left) _ (c .before .before .before .before .before .before .before .running .ensures) _ (c .before .before .before .before .before .before .step-refusal .ensures) (c .before .before .before .before .before .if2 .left) _ (c .before .before .before .mark-result .ensures)
+
+state-after-requires : tie.Need-state-after-requires
+state-after-requires c κs =
+    let may = may-ask _ _ _ (c .before .before .before .before .before .before .before .before .before .before .before .before .who-refusal .ensures) (c .before .before .before .before .before .before .before .before .before .before .before .if1 .left) in
+    (may .is-sound, may .not-over)
+
+same-length : tie.Need-same-length
+same-length c = search needs
+
+returns-3 : tie.Need-returns-3
+returns-3 c = step-done _ _ _ _ _ _ (c .before .before .before .before .before .before .before .before .before .before .before .before .before .who-refusal .ensures) (c .before .before .before .before .before .before .before .before .before .before .before .before .if1 .left) _ (c .before .before .before .before .before .before .before .before .before .before .before .running .ensures) _ (c .before .before .before .before .before .before .before .before .before .before .step-refusal .ensures) (c .before .before .before .before .before .before .before .before .before .if2 .left) _ (c .before .before .before .before .before .before .before .mark-result .ensures) _ _ (c .before .before .before .mark-late .ensures) (c .state-after .ensures)
+
+pub step-spec : {M : Type 1} → statement M
+step-spec =
+    tie.close
+    (tie.spec
+    who-refusal-requires
+    returns
+    running-requires
+    step-refusal-requires
+    returns-2
+    mark-result-requires
+    mark-late-requires
+    state-after-requires
+    same-length
+    returns-3)
