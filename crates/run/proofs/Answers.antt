@@ -4,14 +4,15 @@ use mathlib.Core.List.{List}
 use mathlib.Core.Bool.{true, false}
 use Prim.Native.Nat.{ℕ, zero, suc, _-_, _≤_}
 use native.Mathlib.Omega.{arith}
+use lib.Dec.{ltb}
 use lib.ListN.{length, getD}
-use Rattle.basis.specs.Choose.{choose-yes, choose-no}
+use Rattle.basis.specs.Choose.{choose, choose-yes, choose-no}
 use Rattle.run.specs.declared.Mode.{Mode}
 use Rattle.run.specs.declared.Mode.the-variants.{Table, Filling}
 use Rattle.run.specs.declared.State.{State}
 use Rattle.run.specs.declared.Runner.the-variants as runner
 use Rattle.run.specs.declared.Closed.the-variants as closed
-use Rattle.run.specs.State.{jobOf}
+use Rattle.run.specs.State.{jobOf, offset, jobCount}
 use Rattle.run.specs.Who.{unlessEnded, firstOpen, runningBy, running, whoRefusal, ofEntry, answered, whoOf}
 use Rattle.run.specs.Step.{of12, withResult, withLate, stepRefusal, stateAfter, logAfter, answerOf, nextState, nextLog, Stepped}
 use Rattle.run.specs.Accepted.{WhoAccepted, StepAccepted, next-asked, next-spared, who-accepted, who-answers, step-accepted, running-to}
@@ -89,6 +90,10 @@ module _ (s : State) (table : List ℕ) where
     who-task r er nz = task-is r nz ∙ sym (who-answers s table may-ask ∙ ap ofEntry (sym er))
 
 -- ---- step
+pub twelve : (s : State) (length jobs r : ℕ) → jobs ≡ offset s (s .count) → r ≡ choose (ltb length jobs) 12 0 → r ≡ choose (ltb length (jobCount s)) 12 0
+unfolding jobCount
+twelve s length jobs r ej er = er ∙ ap (λ (x : ℕ). choose (ltb length x) 12 0) ej
+
 module _ (s : State) (table : List ℕ) (clock report : ℕ) (log : List ℕ) where
   refused-step : (n : ℕ) → n ≡ stepRefusal s table clock report log → (n ≡ 0 → ⊥) → Stepped s table clock report log log (record { answer = closed.Refused n; state = s })
   refused-step n e nz = record {

@@ -13,7 +13,7 @@ use Rattle.basis.specs.Bytes.{overwrite}
 use Rattle.run.specs.declared.Job.{Job}
 use Rattle.run.specs.declared.State.{State}
 use Rattle.run.specs.State.{runtimeOf, jobOf, every, place, lastSlice}
-use Rattle.run.specs.Step.{afterSlice, resultOf, withResult, withLate}
+use Rattle.run.specs.Step.{afterSlice, jobAfter, resultOf, withResult, withLate, stateAfter}
 
 -- the tests so far and the test of task i make the tests up to the next task
 pub one-more-sound : (test : ℕ → Bool) (i : ℕ) (a b r : Bool) → a ≡ every test i → b ≡ test i → r ≡ (a && b) → r ≡ every test (i + 1)
@@ -46,3 +46,9 @@ its-result s zero report old at r nz ea er = absurd (nz refl)
 its-result s (suc i) report old at r nz ea er =
     let e : suc i - 1 ≡ i = omega arith in
     rw (← (rw e at ea)) (rw e at er)
+
+pub new-state : (s : State) (ran clock report : ℕ) (jobs : List Job) → jobs ≡ overwrite (jobAfter s ran report) (s .count) (s .jobs)
+    → record { tasks = s .tasks; jobs = jobs; count = s .count; cycle = s .cycle; position = s .position + 1; clock = clock; mode = s .mode } ≡ stateAfter s ran clock report
+unfolding stateAfter
+new-state s ran clock report jobs e =
+    ap (λ (js : List Job). record { tasks = s .tasks; jobs = js; count = s .count; cycle = s .cycle; position = s .position + 1; clock = clock; mode = s .mode }) e

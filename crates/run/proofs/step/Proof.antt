@@ -5,7 +5,7 @@ use Rattle.run.proofs.step.Statement.{statement}
 use Rattle.run.proofs.step.Tie as tie
 
 who-refusal-requires : tie.Need-who-refusal-requires
-who-refusal-requires c κs = search needs
+who-refusal-requires c κs = tt
 
 returns : tie.Need-returns
 returns c = step-not-asked _ _ _ _ _ _ (c .before .who-refusal .ensures) (c .if1 .taken)

@@ -1,11 +1,10 @@
 -- `run::who` meets its contract: each way out answers as the laws of Answers say.
 use Rattle.run.proofs.Answers.{who-refused, may-ask, who-idle, who-task}
-use borrow.Author.Needs.{needs}
 use Rattle.run.proofs.who.Statement.{statement}
 use Rattle.run.proofs.who.Tie as tie
 
 who-refusal-requires : tie.Need-who-refusal-requires
-who-refusal-requires c κs = search needs
+who-refusal-requires c κs = tt
 
 returns : tie.Need-returns
 returns c = who-refused _ _ _ (c .before .who-refusal .ensures) (c .if1 .taken)

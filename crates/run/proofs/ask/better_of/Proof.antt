@@ -1,8 +1,8 @@
 -- `run::ask::better_of` meets its contract.
+use native.Mathlib.Omega.{arith}
 use borrow.Author.Tests.{eq-eqb, ne-eqb, lt-ltb, le-ltb}
 use Rattle.basis.specs.Choose.{choose}
 use Rattle.run.specs.Shapes.{better}
-use borrow.Author.Needs.{needs}
 use Rattle.run.proofs.ask.better_of.Statement.{statement}
 use Rattle.run.proofs.ask.better_of.Tie as tie
 
@@ -11,14 +11,14 @@ unfolding better choose
 returns c = rw (c .if1 .taken)
 
 add-t6 : tie.Need-add-t6
-add-t6 c = search needs
+add-t6 c = omega arith
 
 returns-2 : tie.Need-returns-2
 unfolding better choose
 returns-2 c = rw (c .before .before .if1 .left, eq-eqb _ _ (c .if2 .taken))
 
 add-t7 : tie.Need-add-t7
-add-t7 c = search needs
+add-t7 c = omega arith
 
 returns-3 : tie.Need-returns-3
 unfolding better choose

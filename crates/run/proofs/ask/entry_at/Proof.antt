@@ -8,7 +8,7 @@ use Rattle.run.proofs.ask.entry_at.Statement.{statement}
 use Rattle.run.proofs.ask.entry_at.Tie as tie
 
 shared-slice-read-result : tie.Need-shared-slice-read-result
-shared-slice-read-result c = search needs
+shared-slice-read-result c = omega arith
 
 cast-result : tie.Need-cast-result
 cast-result c = omega (arith, c .shared-slice-known .given (c .before .before .args .slice))

@@ -20,7 +20,7 @@ unfolding of11 of11By choose
 returns c = rw (c .before .enum-told2 .given .1, lt-ltb _ _ (c .if1 .taken))
 
 entry-at-requires : tie.Need-entry-at-requires
-entry-at-requires c κs = search needs
+entry-at-requires c κs = tt
 
 returns-2 : tie.Need-returns-2
 unfolding of11 of11By choose

@@ -8,7 +8,7 @@ enum-told : tie.Need-enum-told
 enum-told c = search needs
 
 entry-at-requires : tie.Need-entry-at-requires
-entry-at-requires c κs = search needs
+entry-at-requires c κs = tt
 
 unless-ended-requires : tie.Need-unless-ended-requires
 unless-ended-requires c κs = entry-known _ _ _ (c .before .before .before .before .pre) (c .before .enum-told .given .1) (c .entry-at .ensures)
@@ -17,7 +17,7 @@ enum-told-2 : tie.Need-enum-told-2
 enum-told-2 c = search needs
 
 first-open-requires : tie.Need-first-open-requires
-first-open-requires c κs = search needs
+first-open-requires c κs = c .before .before .before .pre .is-sound .count-to
 
 returns : tie.Need-returns
 returns c = by-table _ _ _ _ (c .before .before .enum-told .given .1) (c .before .entry-at .ensures) (c .unless-ended .ensures)

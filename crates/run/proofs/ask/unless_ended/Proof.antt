@@ -1,7 +1,7 @@
 -- `run::ask::unless_ended` meets its contract.
+use native.Mathlib.Omega.{arith}
 use Rattle.run.specs.State.{fresh, jobOf}
 use Rattle.run.proofs.Answers.{idle-entry, ended-entry, open-entry}
-use borrow.Author.Needs.{needs}
 use Rattle.run.proofs.ask.unless_ended.Statement.{statement}
 use Rattle.run.proofs.ask.unless_ended.Tie as tie
 
@@ -9,13 +9,13 @@ returns : tie.Need-returns
 returns c = idle-entry _ _ (c .if1 .taken)
 
 sub-job : tie.Need-sub-job
-sub-job c = search needs
+sub-job c = omega arith
 
 mul-job : tie.Need-mul-job
-mul-job c = search needs
+mul-job c = omega arith
 
 array-copy-out-job : tie.Need-array-copy-out-job
-array-copy-out-job c = search needs
+array-copy-out-job c = omega arith
 
 returns-2 : tie.Need-returns-2
 unfolding jobOf fresh

@@ -4,24 +4,23 @@ use native.Mathlib.Numerals.{add-one}
 use Rattle.run.specs.State.{noTiming, fresh, runtimeOf, jobOf}
 use Rattle.run.specs.Step.{afterSlice}
 use Rattle.run.specs.Shapes.{sliceOf}
-use borrow.Author.Needs.{needs}
 use Rattle.run.proofs.close.after_slice.Statement.{statement}
 use Rattle.run.proofs.close.after_slice.Tie as tie
 
 mul-task : tie.Need-mul-task
-mul-task c = search needs
+mul-task c = omega arith
 
 array-copy-out-task : tie.Need-array-copy-out-task
-array-copy-out-task c = search needs
+array-copy-out-task c = omega arith
 
 mul-job : tie.Need-mul-job
-mul-job c = search needs
+mul-job c = omega arith
 
 array-copy-out-job : tie.Need-array-copy-out-job
-array-copy-out-job c = search needs
+array-copy-out-job c = omega arith
 
 add-slice-of : tie.Need-add-slice-of
-add-slice-of c = search needs
+add-slice-of c = omega arith
 
 slice-of-requires : tie.Need-slice-of-requires
 unfolding runtimeOf jobOf noTiming fresh

@@ -3,19 +3,18 @@ use mathlib.Core.Path.{refl, sym, _∙_}
 use Rattle.basis.specs.Choose.{yes-so, no-so}
 use Rattle.run.specs.State.{fresh}
 use Rattle.run.specs.Step.{jobAfter}
-use borrow.Author.Needs.{needs}
 use Rattle.run.proofs.close.job_after.Statement.{statement}
 use Rattle.run.proofs.close.job_after.Tie as tie
 
 last-slice-requires : tie.Need-last-slice-requires
-last-slice-requires c κs = search needs
+last-slice-requires c κs = c .pre
 
 returns : tie.Need-returns
 unfolding jobAfter fresh
 returns c = yes-so _ _ _ _ (sym (c .before .last-slice .ensures) ∙ c .if1 .taken) refl
 
 after-slice-requires : tie.Need-after-slice-requires
-after-slice-requires c κs = search needs
+after-slice-requires c κs = c .before .before .pre
 
 returns-2 : tie.Need-returns-2
 unfolding jobAfter

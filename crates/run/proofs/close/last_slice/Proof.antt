@@ -1,18 +1,18 @@
 -- `run::close::last_slice` meets its contract.
+use native.Mathlib.Omega.{arith}
 use native.Mathlib.Numerals.{add-one}
 use Rattle.run.specs.State.{noTiming, periodOf, lastSlice}
-use borrow.Author.Needs.{needs}
 use Rattle.run.proofs.close.last_slice.Statement.{statement}
 use Rattle.run.proofs.close.last_slice.Tie as tie
 
 mul-task : tie.Need-mul-task
-mul-task c = search needs
+mul-task c = omega arith
 
 array-copy-out-task : tie.Need-array-copy-out-task
-array-copy-out-task c = search needs
+array-copy-out-task c = omega arith
 
 add-next : tie.Need-add-next
-add-next c = search needs
+add-next c = omega arith
 
 rem-result : tie.Need-rem-result
 unfolding periodOf noTiming

@@ -12,19 +12,19 @@ returns : tie.Need-returns
 returns c = no-result _ _ _ _ (c .if1 .taken)
 
 sub-i : tie.Need-sub-i
-sub-i c = search needs
+sub-i c = omega arith
 
 mul-task : tie.Need-mul-task
-mul-task c = search needs
+mul-task c = omega arith
 
 array-copy-out-task : tie.Need-array-copy-out-task
-array-copy-out-task c = search needs
+array-copy-out-task c = omega arith
 
 mul-job : tie.Need-mul-job
-mul-job c = search needs
+mul-job c = omega arith
 
 array-copy-out-job : tie.Need-array-copy-out-job
-array-copy-out-job c = search needs
+array-copy-out-job c = omega arith
 
 add-used : tie.Need-add-used
 unfolding runtimeOf jobOf noTiming fresh
@@ -33,7 +33,7 @@ add-used c =
     omega (arith, T .used-to, T .runtime-to, T .period-to)
 
 place-requires : tie.Need-place-requires
-place-requires c κs = search needs
+place-requires c κs = (c .before .before .before .before .before .before .before .before .pre .is-sound, omega arith)
 
 write-result-requires : tie.Need-write-result-requires
 write-result-requires c κs =

@@ -1,20 +1,21 @@
 -- `run::close::place` meets its contract.
+use mathlib.Core.Path.{ap}
+use Prim.Native.Nat.{ℕ, _+_, _/_}
 use native.Mathlib.Omega.{arith}
 use native.Mathlib.Nat.{div-le-self}
 use Rattle.run.specs.State.{noTiming, periodOf, place}
 use Rattle.run.specs.Places.{offset-most}
-use borrow.Author.Needs.{needs}
 use Rattle.run.proofs.close.place.Statement.{statement}
 use Rattle.run.proofs.close.place.Tie as tie
 
 mul-task : tie.Need-mul-task
-mul-task c = search needs
+mul-task c = omega arith
 
 array-copy-out-task : tie.Need-array-copy-out-task
-array-copy-out-task c = search needs
+array-copy-out-task c = omega arith
 
 offset-requires : tie.Need-offset-requires
-offset-requires c κs = search needs
+offset-requires c κs = (c .before .before .pre .0, omega arith)
 
 div-result : tie.Need-div-result
 unfolding periodOf noTiming
@@ -31,7 +32,7 @@ add-result c =
 
 returns : tie.Need-returns
 unfolding place periodOf noTiming
-returns c = cc
+returns c = ap (λ (x : ℕ). x + c .before .before .before .before .before .args .state .position / periodOf (c .before .before .before .before .before .args .state) (c .before .before .before .before .before .args .i)) (c .before .before .offset .ensures)
 
 pub place-spec : {M : Type 1} → statement M
 place-spec =

@@ -3,12 +3,11 @@ use mathlib.Core.Path.{refl, sym, _∙_}
 use borrow.Author.Tests.{eq-eqb, ne-eqb}
 use Rattle.basis.specs.Choose.{yes-so, no-so}
 use Rattle.run.specs.Step.{nextClock, of13}
-use borrow.Author.Needs.{needs}
 use Rattle.run.proofs.close.refusal_13.Statement.{statement}
 use Rattle.run.proofs.close.refusal_13.Tie as tie
 
 wrapping-add-u32-requires : tie.Need-wrapping-add-u32-requires
-wrapping-add-u32-requires c κs = search needs
+wrapping-add-u32-requires c κs = tt
 
 returns : tie.Need-returns
 unfolding of13 nextClock

@@ -1,8 +1,8 @@
 -- `run::close::slice_of` meets its contract.
+use native.Mathlib.Omega.{arith}
 use borrow.Author.Tests.{not-true, not-false, eq-eqb, ne-eqb}
 use Rattle.basis.specs.Choose.{choose}
 use Rattle.run.specs.Shapes.{sliceOf}
-use borrow.Author.Needs.{needs}
 use Rattle.run.proofs.close.slice_of.Statement.{statement}
 use Rattle.run.proofs.close.slice_of.Tie as tie
 
@@ -11,7 +11,7 @@ unfolding sliceOf choose
 returns c = rw (not-true (c .before .args .here) (c .if1 .taken))
 
 add-used : tie.Need-add-used
-add-used c = search needs
+add-used c = omega arith
 
 returns-2 : tie.Need-returns-2
 unfolding sliceOf choose

@@ -1,4 +1,5 @@
 -- `run::close::write_late` meets its contract.
+use native.Mathlib.Omega.{arith}
 use borrow.Author.Tests.{not-true, not-false}
 use Rattle.basis.specs.Choose.{choose}
 use borrow.Author.Needs.{needs}
@@ -10,7 +11,7 @@ unfolding choose
 returns c = rw (not-true (c .before .args .last) (c .if1 .taken))
 
 slice-write-log : tie.Need-slice-write-log
-slice-write-log c = search needs
+slice-write-log c = omega arith
 
 same-length : tie.Need-same-length
 same-length c = search needs

@@ -1,4 +1,5 @@
 -- `run::close::write_result` meets its contract.
+use native.Mathlib.Omega.{arith}
 use borrow.Author.Tests.{eq-eqb, ne-eqb}
 use Rattle.basis.specs.Choose.{choose}
 use borrow.Author.Needs.{needs}
@@ -6,7 +7,7 @@ use Rattle.run.proofs.close.write_result.Statement.{statement}
 use Rattle.run.proofs.close.write_result.Tie as tie
 
 slice-write-log : tie.Need-slice-write-log
-slice-write-log c = search needs
+slice-write-log c = omega arith
 
 same-length : tie.Need-same-length
 same-length c = search needs
@@ -16,7 +17,7 @@ unfolding choose
 returns c = rw (eq-eqb _ _ (c .if1 .taken))
 
 slice-write-log-2 : tie.Need-slice-write-log-2
-slice-write-log-2 c = search needs
+slice-write-log-2 c = omega arith
 
 same-length-2 : tie.Need-same-length-2
 same-length-2 c = search needs

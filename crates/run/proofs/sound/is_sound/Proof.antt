@@ -1,8 +1,8 @@
 -- `run::sound::is_sound` meets its contract.
+use native.Mathlib.Omega.{arith}
 use mathlib.Core.Path.{sym, _∙_}
 use borrow.Author.Tests.{not-true, not-false, lt-leb, le-leb}
 use Rattle.run.specs.State.{within, sound}
-use borrow.Author.Needs.{needs}
 use Rattle.run.proofs.sound.is_sound.Statement.{statement}
 use Rattle.run.proofs.sound.is_sound.Tie as tie
 
@@ -15,7 +15,7 @@ unfolding sound within
 returns-2 c = rw (le-leb _ _ (c .before .if1 .left), lt-leb _ _ (c .if2 .taken))
 
 is-within-requires : tie.Need-is-within-requires
-is-within-requires c κs = search needs
+is-within-requires c κs = tt
 
 returns-3 : tie.Need-returns-3
 unfolding sound within
@@ -26,7 +26,7 @@ unfolding sound within
 returns-4 c = rw (le-leb _ _ (c .before .before .before .before .if1 .left), le-leb _ _ (c .before .before .before .if2 .left), sym (c .before .before .is-within .ensures) ∙ not-false _ (c .before .if3 .left), lt-leb _ _ (c .if4 .taken))
 
 sound-tasks-requires : tie.Need-sound-tasks-requires
-sound-tasks-requires c κs = search needs
+sound-tasks-requires c κs = omega arith
 
 returns-5 : tie.Need-returns-5
 unfolding sound within

@@ -2,12 +2,11 @@
 use mathlib.Core.Path.{refl, sym, _∙_}
 use Rattle.basis.specs.Choose.{yes-so, no-so}
 use Rattle.run.specs.Who.{of9}
-use borrow.Author.Needs.{needs}
 use Rattle.run.proofs.sound.refusal_9.Statement.{statement}
 use Rattle.run.proofs.sound.refusal_9.Tie as tie
 
 is-sound-requires : tie.Need-is-sound-requires
-is-sound-requires c κs = search needs
+is-sound-requires c κs = tt
 
 returns : tie.Need-returns
 unfolding of9

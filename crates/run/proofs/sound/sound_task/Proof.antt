@@ -4,12 +4,11 @@ use mathlib.Core.Bool.{true}
 use borrow.Author.Tests.{not-true, not-false, eq-eqb, ne-eqb, le-leb, lt-leb}
 use Rattle.run.specs.State.{within, soundTask}
 use Rattle.run.specs.Sound.{within-tells}
-use borrow.Author.Needs.{needs}
 use Rattle.run.proofs.sound.sound_task.Statement.{statement}
 use Rattle.run.proofs.sound.sound_task.Tie as tie
 
 is-within-requires : tie.Need-is-within-requires
-is-within-requires c κs = search needs
+is-within-requires c κs = tt
 
 returns : tie.Need-returns
 unfolding soundTask
@@ -30,7 +29,7 @@ unfolding soundTask
 returns-2 c = rw (period-fits (c .before), ne-eqb _ _ (c .if2 .taken))
 
 is-within-requires-2 : tie.Need-is-within-requires-2
-is-within-requires-2 c κs = search needs
+is-within-requires-2 c κs = tt
 
 returns-3 : tie.Need-returns-3
 unfolding soundTask
