@@ -10,6 +10,7 @@ use Rattle.basis.specs.Choose.{choose, choose-yes, choose-no}
 use Rattle.run.specs.declared.Mode.{Mode}
 use Rattle.run.specs.declared.Mode.the-variants.{Table, Filling}
 use Rattle.run.specs.declared.State.{State}
+use Rattle.run.specs.declared.Next.{Next}
 use Rattle.run.specs.declared.Runner.the-variants as runner
 use Rattle.run.specs.declared.Closed.the-variants as closed
 use Rattle.run.specs.State.{jobOf, offset, jobCount}
@@ -95,15 +96,19 @@ unfolding jobCount
 twelve s length jobs r ej er = er ∙ ap (λ (x : ℕ). choose (ltb length x) 12 0) ej
 
 module _ (s : State) (table : List ℕ) (clock report : ℕ) (log : List ℕ) where
-  refused-step : (n : ℕ) → n ≡ stepRefusal s table clock report log → (n ≡ 0 → ⊥) → Stepped s table clock report log log (record { answer = closed.Refused n; state = s })
-  refused-step n e nz = record {
-    answer = closed-is n nz ∙ ap answerOf e;
-    state = rw (← e) (state-is n s _ nz);
+  -- it gives back the state that it got
+  abbrev GivesBack : ℕ → Next → Type 0
+  GivesBack n r = (r .answer ≡ closed.Refused n) × (r .state ≡ s)
+
+  refused-step : (n : ℕ) → n ≡ stepRefusal s table clock report log → (n ≡ 0 → ⊥) → (r : Next) → GivesBack n r → Stepped s table clock report log log r
+  refused-step n e nz r g = record {
+    answer = g .0 ∙ closed-is n nz ∙ ap answerOf e;
+    state = g .1 ∙ rw (← e) (state-is n s _ nz);
     bytes = rw (← e) (log-is n log _ nz);
   }
 
   -- Refusals 9 to 11 come first,
-  pub step-not-asked : (n : ℕ) → n ≡ whoRefusal s table → (n ≡ 0 → ⊥) → Stepped s table clock report log log (record { answer = closed.Refused n; state = s })
+  pub step-not-asked : (n : ℕ) → n ≡ whoRefusal s table → (n ≡ 0 → ⊥) → (r : Next) → GivesBack n r → Stepped s table clock report log log r
   unfolding stepRefusal
   step-not-asked n e nz = refused-step n (e ∙ sym (next-spared (whoRefusal s table) _ (λ z. nz (e ∙ z)))) nz
 
@@ -113,7 +118,7 @@ module _ (s : State) (table : List ℕ) (clock report : ℕ) (log : List ℕ) wh
     unfolding stepRefusal twelveOn of12
     found-is = em ∙ ap (λ (x : ℕ). twelveOn s (length log) x clock report) er ∙ sym (next-asked (whoRefusal s table) _ (sym e ∙ z))
 
-    pub step-refused : (m ≡ 0 → ⊥) → Stepped s table clock report log log (record { answer = closed.Refused m; state = s })
+    pub step-refused : (m ≡ 0 → ⊥) → (r : Next) → GivesBack m r → Stepped s table clock report log log r
     step-refused nz = refused-step m found-is nz
 
     -- and what is not refused is done.

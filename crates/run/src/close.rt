@@ -73,11 +73,10 @@ pub(crate) fn step_refusal(state: State, length: usize, ran: usize, clock: u32, 
     requires { ⌜ SoundState state ⌝ }
     ensures { λ r. ⌜ r ≡ twelveOn state length ran clock report ⌝ }
 {
-    let jobs = offset(state, state.count);
-    or_next(
-        refusal_12(jobs, length),
-        or_next(refusal_13(state, clock), refusal_14(ran, report)),
-    )
+    let twelve = refusal_12(offset(state, state.count), length);
+    let thirteen = refusal_13(state, clock);
+    let fourteen = refusal_14(ran, report);
+    or_next(twelve, or_next(thirteen, fourteen))
 }
 
 fn slice_of(job: Job, runtime: u32, here: bool, report: u8) -> Job
@@ -179,13 +178,14 @@ fn job_after(state: State, ran: usize, report: u8, i: usize) -> Job
     requires { ⌜ SoundState state × (i < state .count) ⌝ }
     ensures { λ r. ⌜ r ≡ jobAfter state ran report i ⌝ }
 {
+    let job = after_slice(state, ran, report, i);
     if last_slice(state, i) {
         return Job {
             used: 0,
             ended: false,
         };
     }
-    after_slice(state, ran, report, i)
+    job
 }
 
 fn jobs_after(state: State, ran: usize, report: u8) -> [Job; 16]

@@ -69,24 +69,28 @@ pub fn who(state: State, table: &[u8]) -> Runner
     Runner::Task(entry)
 }
 
+// A refused step gives back the state that it got.
+fn refused(state: State, number: u32) -> Next
+    ensures { λ r. ⌜ (r .answer ≡ Closed.Refused number) × (r .state ≡ state) ⌝ }
+{
+    Next {
+        answer: Closed::Refused(number),
+        state,
+    }
+}
+
 // Closes a slice: the clock reading and the report of the job that ran in it.
 pub fn step(state: State, table: &[u8], log: &mut [u8], clock: u32, report: u8) -> Next
     ensures { λ r. ⌜ Stepped state (now (table .entry)) clock report (now (log .entry)) (now (log .exit)) r ⌝ }
 {
     let asked = ask::who_refusal(state, table);
     if asked != 0 {
-        return Next {
-            answer: Closed::Refused(asked),
-            state,
-        };
+        return refused(state, asked);
     }
     let ran = ask::running(state, table);
     let found = close::step_refusal(state, log.len(), ran, clock, report);
     if found != 0 {
-        return Next {
-            answer: Closed::Refused(found),
-            state,
-        };
+        return refused(state, found);
     }
     close::mark_result(state, ran, report, log);
     close::mark_late(state, ran, report, log);

@@ -7,8 +7,11 @@ use Rattle.run.proofs.step.Tie as tie
 who-refusal-requires : tie.Need-who-refusal-requires
 who-refusal-requires c κs = tt
 
+refused-requires : tie.Need-refused-requires
+refused-requires c κs = tt
+
 returns : tie.Need-returns
-returns c = step-not-asked _ _ _ _ _ _ (c .before .who-refusal .ensures) (c .if1 .taken)
+returns c = step-not-asked _ _ _ _ _ _ (c .before .before .who-refusal .ensures) (c .before .if1 .taken) _ (c .refused .ensures)
 
 running-requires : tie.Need-running-requires
 running-requires c κs = may-ask _ _ _ (c .before .who-refusal .ensures) (c .if1 .left)
@@ -16,8 +19,12 @@ running-requires c κs = may-ask _ _ _ (c .before .who-refusal .ensures) (c .if1
 step-refusal-requires : tie.Need-step-refusal-requires
 step-refusal-requires c κs = may-ask _ _ _ (c .before .before .who-refusal .ensures) (c .before .if1 .left) .is-sound
 
+refused-requires-2 : tie.Need-refused-requires-2
+refused-requires-2 c κs = tt
+
 returns-2 : tie.Need-returns-2
-returns-2 c = step-refused _ _ _ _ _ _ (c .before .before .before .before .who-refusal .ensures) (c .before .before .before .if1 .left) _ (c .before .before .running .ensures) _ (c .before .step-refusal .ensures) (c .if2 .taken)
+returns-2 c =
+    step-refused _ _ _ _ _ _ (c .before .before .before .before .before .who-refusal .ensures) (c .before .before .before .before .if1 .left) _ (c .before .before .before .running .ensures) _ (c .before .before .step-refusal .ensures) (c .before .if2 .taken) _ (c .refused2 .ensures)
 
 mark-result-requires : tie.Need-mark-result-requires
 mark-result-requires c κs = may-mark _ _ _ _ _ _ (c .before .before .before .before .before .who-refusal .ensures) (c .before .before .before .before .if1 .left) _ (c .before .before .before .running .ensures) _ (c .before .before .step-refusal .ensures) (c .before .if2 .left)
@@ -41,9 +48,11 @@ step-spec =
     tie.close
     (tie.spec
     who-refusal-requires
+    refused-requires
     returns
     running-requires
     step-refusal-requires
+    refused-requires-2
     returns-2
     mark-result-requires
     mark-late-requires
