@@ -1,7 +1,7 @@
 -- When asking who runs and a step are accepted, said as facts; and what is known of the task that runs.
 use mathlib.Core.Path.{_≡_, refl, sym, ap, _∙_}
 use mathlib.Core.List.{List}
-use mathlib.Core.Bool.{Bool, true, false, true≢false, _&&_, _||_}
+use mathlib.Core.Bool.{Bool, true, false, true≢false}
 use mathlib.Core.Logic.{⊎-elim, inl, inr, _↔_}
 use Prim.Native.Nat.{ℕ, zero, suc, _≤_, _<_}
 use native.Mathlib.Omega.{arith}
@@ -9,7 +9,7 @@ use native.Mathlib.Nat.{pos-of-ne-zero}
 use lib.Dec.{eqb}
 use lib.ListN.{length, getD}
 use borrow.Author.Tests.{ltb-false, le-ltb, eqb-true, eqb-false, eq-eqb, ne-eqb}
-use Rattle.basis.specs.Choose.{choose, choose-yes, choose-no, bool-cases}
+use Rattle.basis.specs.Choose.{choose, choose-yes, choose-no, bool-cases, both-false, either-false}
 use Rattle.plan.specs.Plan.{IsFirst}
 use Rattle.plan.specs.Rank.{first-law}
 use Rattle.run.specs.declared.Mode.{Mode}
@@ -66,10 +66,6 @@ unfolding choose
 given-unless true n = (λ _. refl, λ _. refl)
 given-unless false n = (λ e. absurd (omega arith), λ h. absurd (true≢false (sym h)))
 
-pub neither : (a b : Bool) → ((a || b) ≡ false) ↔ ((a ≡ false) × (b ≡ false))
-neither true b = (λ e. absurd (true≢false e), λ h. h .0)
-neither false b = (λ e. (refl, e), λ h. h .1)
-
 -- ---- 9 to 11
 of-9-none : (s : State) → (of9 s ≡ 0) ↔ SoundState s
 unfolding of9
@@ -86,10 +82,10 @@ of-11-none : (m : Mode) (s : State) (table : List ℕ) → (of11By m s table ≡
 unfolding of11By
 of-11-none Table s table = (
   λ e _.
-      let h = neither _ _ .0 (given-if _ 10 .0 e) in
+      let h = either-false _ _ .0 (given-if _ 10 .0 e) in
       record { length-from = ltb-false (length table) (s .cycle) (h .0); entry-to = ltb-false (s .count) (getD table (s .position) 0) (h .1) },
   λ R.
-      given-if _ 10 .1 (neither _ _ .1 (le-ltb (length table) (s .cycle) (R refl .length-from), le-ltb (s .count) (getD table (s .position) 0) (R refl .entry-to))),
+      given-if _ 10 .1 (either-false _ _ .1 (le-ltb (length table) (s .cycle) (R refl .length-from), le-ltb (s .count) (getD table (s .position) 0) (R refl .entry-to))),
 )
 of-11-none Filling s table = (λ _ e. let z : _≡_ {A = ℕ} 0 1 = cc in absurd (omega arith), λ _. refl)
 
@@ -114,17 +110,13 @@ of-13-none : (s : State) (clock : ℕ) → (of13 s clock ≡ 0) ↔ (clock ≡ n
 unfolding of13
 of-13-none s clock = (λ e. eqb-true clock (nextClock (s .clock)) (given-unless _ 12 .0 e), λ h. given-unless _ 12 .1 (eq-eqb clock (nextClock (s .clock)) h))
 
-not-both : (a b : Bool) → ((a && b) ≡ false) ↔ (a ≡ true → b ≡ false)
-not-both true b = (λ e _. e, λ h. h refl)
-not-both false b = (λ _ h. absurd (true≢false (sym h)), λ _. refl)
-
 of-14-none : (ran report : ℕ) → (of14 ran report ≡ 0) ↔ ((report ≤ 1) × (report ≡ 1 → 0 < ran))
 unfolding of14
 of-14-none ran report = (
   λ e.
-      let h = neither _ _ .0 (given-if _ 13 .0 e) in
-      (ltb-false 1 report (h .0), λ one. pos-of-ne-zero (eqb-false ran 0 (not-both _ _ .0 (h .1) (eq-eqb report 1 one)))),
-  λ h. given-if _ 13 .1 (neither _ _ .1 (le-ltb 1 report (h .0), not-both _ _ .1 (λ t. ne-eqb ran 0 (λ z. omega (arith, h .1 (eqb-true report 1 t)))))),
+      let h = either-false _ _ .0 (given-if _ 13 .0 e) in
+      (ltb-false 1 report (h .0), λ one. pos-of-ne-zero (eqb-false ran 0 (both-false _ _ .0 (h .1) (eq-eqb report 1 one)))),
+  λ h. given-if _ 13 .1 (either-false _ _ .1 (le-ltb 1 report (h .0), both-false (eqb report 1) (eqb ran 0) .1 (λ (t : eqb report 1 ≡ true). ne-eqb ran 0 (λ (z : ran ≡ 0). omega (arith, h .1 (eqb-true report 1 t)))))),
 )
 
 pub step-accepted : (s : State) (table : List ℕ) (clock report : ℕ) (log : List ℕ) → (stepRefusal s table clock report log ≡ 0) ↔ StepAccepted s table clock report log

@@ -9,14 +9,14 @@ use lib.Dec.{eqb}
 use lib.ListN.{length, getD, set, length-set}
 use lib.Seq.{getD-set-same, getD-set-other}
 use borrow.Author.Tests.{eq-eqb, ne-eqb}
-use Rattle.basis.specs.Choose.{choose, eq-or-ne, below-suc}
+use Rattle.basis.specs.Choose.{choose, eq-or-ne, below-suc, either-false}
 use Rattle.run.specs.declared.Job.{Job}
 use Rattle.run.specs.declared.State.{State}
 use Rattle.run.specs.State.{periodOf, runtimeOf, jobOf, offset, jobCount, place, lastSlice}
 use Rattle.run.specs.Who.{running}
 use Rattle.run.specs.Step.{afterSlice, resultOf, withResult, withLate, logAfter}
 use Rattle.run.specs.Places.{place-within, places-apart, jobs-apart, job-in-cycle}
-use Rattle.run.specs.Accepted.{StepAccepted, neither, who-runs}
+use Rattle.run.specs.Accepted.{StepAccepted, who-runs}
 use Rattle.run.specs.StateAfter.{slice-here, slice-elsewhere}
 
 -- The byte of the current job of task i, which was `old`: 1 if it ran and finished; else 2 if it ran and this slice completes
@@ -171,7 +171,7 @@ module _ (s : State) (table : List ℕ) (clock report : ℕ) (log : List ℕ) (A
       late-other s ran report (withResult s ran report log) (s .count) m ne
       ∙ result-other s report log ran m (λ i e. ne i (who-runs s table (A .asked) i e .below))
 
-  -- neither that of another job of a task,
+  -- either-false that of another job of a task,
   pub log-other-job : (i k : ℕ) → i < s .count → k < s .cycle / periodOf s i → (k ≡ s .position / periodOf s i → ⊥) → getD after (offset s i + k) 0 ≡ getD log (offset s i + k) 0
   unfolding place
   log-other-job i k l lk ne =
@@ -204,7 +204,7 @@ module _ (s : State) (table : List ℕ) (clock report : ℕ) (log : List ℕ) (A
     log-open o last =
         ⊎-elim
         (λ (e : ran ≡ suc i).
-        let h = neither (eqb report 1) (eqb (jobOf s i .used + 1) (runtimeOf s i)) .0 (sym (ap (λ (j : Job). j .ended) (slice-here s ran report i e)) ∙ o) in
+        let h = either-false (eqb report 1) (eqb (jobOf s i .used + 1) (runtimeOf s i)) .0 (sym (ap (λ (j : Job). j .ended) (slice-here s ran report i e)) ∙ o) in
         log-byte i l ∙ rw (eq-eqb ran (suc i) e, h .0, h .1, last))
         (λ (ne : ran ≡ suc i → ⊥). log-byte i l ∙ rw (ne-eqb ran (suc i) ne, last))
         (eq-or-ne ran (suc i))

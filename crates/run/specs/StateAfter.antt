@@ -8,7 +8,7 @@ use native.Mathlib.Omega.{arith}
 use lib.Dec.{eqb}
 use lib.ListN.{length, List·getD-eq-default}
 use borrow.Author.Tests.{eqb-false, eq-eqb, ne-eqb}
-use Rattle.basis.specs.Choose.{choose-yes, choose-no, bool-cases, le-or-lt, eq-or-ne}
+use Rattle.basis.specs.Choose.{choose-yes, choose-no, bool-cases, le-or-lt, eq-or-ne, either-false}
 use Rattle.basis.specs.Bytes.{overwrite, overwrite-length, overwrite-at}
 use Rattle.run.specs.declared.Job.{Job}
 use Rattle.run.specs.declared.State.{State}
@@ -16,7 +16,7 @@ use Rattle.run.specs.State.{fresh, periodOf, runtimeOf, jobOf, offset, j
 use Rattle.run.specs.Who.{running}
 use Rattle.run.specs.Step.{afterSlice, jobAfter, stateAfter}
 use Rattle.run.specs.Sound.{SoundTask, SoundState}
-use Rattle.run.specs.Accepted.{StepAccepted, neither, who-runs}
+use Rattle.run.specs.Accepted.{StepAccepted, who-runs}
 
 -- ---- a job after the slice
 module _ (s : State) (ran report i : ℕ) where
@@ -90,7 +90,7 @@ module _ (cycle period runtime : ℕ) (j : Job) (T : SoundTask cycle period runt
       other-job _ (omega (arith, T .used-below o))
       (λ e.
       let less : j .used < runtime = T .used-below o in
-      let ne : j .used + 1 ≡ runtime → ⊥ = eqb-false (j .used + 1) runtime (neither (eqb report 1) (eqb (j .used + 1) runtime) .0 e .1) in
+      let ne : j .used + 1 ≡ runtime → ⊥ = eqb-false (j .used + 1) runtime (either-false (eqb report 1) (eqb (j .used + 1) runtime) .0 e .1) in
       omega arith)
 
 -- ---- the state after an accepted step

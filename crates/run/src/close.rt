@@ -144,8 +144,8 @@ pub(crate) fn mark_result(state: State, ran: usize, report: u8, log: &mut [u8])
     let jobs = state.jobs;
     let task = tasks[i];
     let job = jobs[i];
-    let used = job.used + 1;
-    write_result(log, place(state, i), report, used == task.runtime);
+    let in_all = job.used + 1;
+    write_result(log, place(state, i), report, in_all == task.runtime);
 }
 
 fn write_late(log: &mut [u8], at: usize, last: bool, ended: bool)

@@ -26,9 +26,9 @@ mul-job c = omega arith
 array-copy-out-job : tie.Need-array-copy-out-job
 array-copy-out-job c = omega arith
 
-add-used : tie.Need-add-used
+add-in-all : tie.Need-add-in-all
 unfolding runtimeOf jobOf noTiming fresh
-add-used c =
+add-in-all c =
     let T = c .before .before .before .before .before .before .before .pre .is-sound .tasks-sound (c .before .before .before .before .before .before .before .args .ran - 1) (omega arith) in
     omega (arith, T .used-to, T .runtime-to, T .period-to)
 
@@ -56,7 +56,7 @@ mark-result-spec =
     array-copy-out-task
     mul-job
     array-copy-out-job
-    add-used
+    add-in-all
     place-requires
     write-result-requires
     same-length
