@@ -1,4 +1,4 @@
--- Shaped like the code, for private contracts alone, and tied to the definitions of Who and Step.
+-- Shaped like the code, for private contracts alone; the laws of proofs/ tie each to the definitions of Who and Step.
 use mathlib.Core.List.{List}
 use mathlib.Core.Bool.{Bool, _||_}
 use Prim.Native.Nat.{ℕ, _+_, _≤_, _<_}

@@ -9,6 +9,7 @@ use crate::Mode;
 use crate::State;
 use crate::sound::refusal_9;
 
+// The first refusal that applies is given.
 pub(crate) fn or_next(found: u32, next: u32) -> u32
     ensures { λ r. ⌜ r ≡ orNext found next ⌝ }
 {
@@ -80,6 +81,7 @@ struct Best {
     period: u32,
 }
 
+// Of equal periods the earlier stays.
 fn better_of(best: Best, i: usize, period: u32, ended: bool) -> Best
     requires { ⌜ i ≤ 16 ⌝ }
     ensures { λ r. ⌜ r ≡ better best i period ended ⌝ }
@@ -124,6 +126,7 @@ fn first_open(state: State) -> usize
     best.entry
 }
 
+// The entry of the task that runs, 0 for none, where asking is not refused.
 pub(crate) fn running(state: State, table: &[u8]) -> usize
     requires { ⌜ WhoAccepted state (now table) ⌝ }
     ensures { λ r. ⌜ r ≡ running state (now (table .entry)) ⌝ }

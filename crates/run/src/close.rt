@@ -69,6 +69,7 @@ fn refusal_14(ran: usize, report: u8) -> u32
     if ran == 0 { 14 } else { 0 }
 }
 
+// Refusals 12 to 14, for a state that is sound.
 pub(crate) fn step_refusal(state: State, length: usize, ran: usize, clock: u32, report: u8) -> u32
     requires { ⌜ SoundState state ⌝ }
     ensures { λ r. ⌜ r ≡ twelveOn state length ran clock report ⌝ }
@@ -79,6 +80,7 @@ pub(crate) fn step_refusal(state: State, length: usize, ran: usize, clock: u32, 
     or_next(twelve, or_next(thirteen, fourteen))
 }
 
+// A job after a slice that it ran in, or did not. The slice counts as used also when the job ends in it.
 fn slice_of(job: Job, runtime: u32, here: bool, report: u8) -> Job
     requires { ⌜ job .used ≤ 4096 ⌝ }
     ensures { λ r. ⌜ r ≡ sliceOf job runtime here report ⌝ }
@@ -108,6 +110,7 @@ fn after_slice(state: State, ran: usize, report: u8, i: usize) -> Job
     slice_of(job, task.runtime, ran == i + 1, report)
 }
 
+// Whether a deadline of task i follows the slice.
 fn last_slice(state: State, i: usize) -> bool
     requires { ⌜ SoundState state × (i < state .count) ⌝ }
     ensures { λ r. ⌜ r ≡ lastSlice state i ⌝ }
@@ -174,6 +177,7 @@ pub(crate) fn mark_late(state: State, ran: usize, report: u8, log: &mut [u8])
     }
 }
 
+// At a deadline a fresh job begins.
 fn job_after(state: State, ran: usize, report: u8, i: usize) -> Job
     requires { ⌜ SoundState state × (i < state .count) ⌝ }
     ensures { λ r. ⌜ r ≡ jobAfter state ran report i ⌝ }
@@ -188,6 +192,7 @@ fn job_after(state: State, ran: usize, report: u8, i: usize) -> Job
     job
 }
 
+// Places beyond the task count are handed on.
 fn jobs_after(state: State, ran: usize, report: u8) -> [Job; 16]
     requires { ⌜ SoundState state ⌝ }
     ensures { λ r. ⌜ r ≡ overwrite (jobAfter state ran report) (state .count) (state .jobs) ⌝ }

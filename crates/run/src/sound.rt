@@ -45,6 +45,7 @@ fn sound_task(cycle: u32, task: Timing, job: Job) -> bool
     used < runtime
 }
 
+// Every task up to the count; places beyond it are not looked at.
 fn sound_tasks(state: State) -> bool
     requires { ⌜ state .count ≤ 16 ⌝ }
     ensures { λ r. ⌜ r ≡ every (λ i. soundTask (state .cycle) (getD (state .tasks) i noTiming) (jobOf state i)) (state .count) ⌝ }

@@ -24,24 +24,32 @@ refused-requires-2 c κs = tt
 
 returns-2 : tie.Need-returns-2
 returns-2 c =
-    step-refused _ _ _ _ _ _ (c .before .before .before .before .before .who-refusal .ensures) (c .before .before .before .before .if1 .left) _ (c .before .before .before .running .ensures) _ (c .before .before .step-refusal .ensures) (c .before .if2 .taken) _ (c .refused2 .ensures)
+    let b = c .before in
+    step-refused _ _ _ _ _ _ (b .before .before .before .before .who-refusal .ensures) (b .before .before .before .if1 .left) _ (b .before .before .running .ensures) _ (b .before .step-refusal .ensures) (b .if2 .taken) _ (c .refused2 .ensures)
 
 mark-result-requires : tie.Need-mark-result-requires
-mark-result-requires c κs = may-mark _ _ _ _ _ _ (c .before .before .before .before .before .who-refusal .ensures) (c .before .before .before .before .if1 .left) _ (c .before .before .before .running .ensures) _ (c .before .before .step-refusal .ensures) (c .before .if2 .left)
+mark-result-requires c κs =
+    let b = c .before in
+    may-mark _ _ _ _ _ _ (b .before .before .before .before .who-refusal .ensures) (b .before .before .before .if1 .left) _ (b .before .before .running .ensures) _ (b .before .step-refusal .ensures) (b .if2 .left)
 
 mark-late-requires : tie.Need-mark-late-requires
-mark-late-requires c κs = may-mark-late _ _ _ _ _ _ (c .before .before .before .before .before .before .before .before .before .who-refusal .ensures) (c .before .before .before .before .before .before .before .before .if1 .left) _ (c .before .before .before .before .before .before .before .running .ensures) _ (c .before .before .before .before .before .before .step-refusal .ensures) (c .before .before .before .before .before .if2 .left) _ (c .before .before .before .mark-result .ensures)
+mark-late-requires c κs =
+    let b = c .before .before .before .before .before in
+    may-mark-late _ _ _ _ _ _ (b .before .before .before .before .who-refusal .ensures) (b .before .before .before .if1 .left) _ (b .before .before .running .ensures) _ (b .before .step-refusal .ensures) (b .if2 .left) _ (c .before .before .before .mark-result .ensures)
 
 state-after-requires : tie.Need-state-after-requires
 state-after-requires c κs =
-    let may = may-ask _ _ _ (c .before .before .before .before .before .before .before .before .before .before .before .before .who-refusal .ensures) (c .before .before .before .before .before .before .before .before .before .before .before .if1 .left) in
+    let b = c .before .before .before .before .before .before .before .before .before .before .before in
+    let may = may-ask _ _ _ (b .before .who-refusal .ensures) (b .if1 .left) in
     (may .is-sound, may .not-over)
 
 same-length : tie.Need-same-length
 same-length c = search needs
 
 returns-3 : tie.Need-returns-3
-returns-3 c = step-done _ _ _ _ _ _ (c .before .before .before .before .before .before .before .before .before .before .before .before .before .who-refusal .ensures) (c .before .before .before .before .before .before .before .before .before .before .before .before .if1 .left) _ (c .before .before .before .before .before .before .before .before .before .before .before .running .ensures) _ (c .before .before .before .before .before .before .before .before .before .before .step-refusal .ensures) (c .before .before .before .before .before .before .before .before .before .if2 .left) _ (c .before .before .before .before .before .before .before .mark-result .ensures) _ _ (c .before .before .before .mark-late .ensures) (c .state-after .ensures)
+returns-3 c =
+    let b = c .before .before .before .before .before .before .before .before .before in
+    step-done _ _ _ _ _ _ (b .before .before .before .before .who-refusal .ensures) (b .before .before .before .if1 .left) _ (b .before .before .running .ensures) _ (b .before .step-refusal .ensures) (b .if2 .left) _ (c .before .before .before .before .before .before .before .mark-result .ensures) _ _ (c .before .before .before .mark-late .ensures) (c .state-after .ensures)
 
 pub step-spec : {M : Type 1} → statement M
 step-spec =

@@ -32,7 +32,16 @@ last-slice-requires c κs = (c .before .before .before .before .before .before .
 
 write-late-requires : tie.Need-write-late-requires Inv-loop μ-loop
 write-late-requires c κs =
-    omega (arith, c .before .place .ensures, c .before .before .before .before .before .before .before .pre .log-from, place-within _ (c .before .before .before .before .before .before .before .pre .is-sound) (c .before .before .before .before .before .before .before .pre .not-over) (c .before .before .before .before .before .loop .i) (c .before .before .before .before .loop-test .taken), ap length (c .before .before .before .before .before .loop .inv .1), late-length (c .before .before .before .before .before .before .before .args .state) (c .before .before .before .before .before .before .before .args .ran) (c .before .before .before .before .before .before .before .args .report) (now (c .before .before .before .before .before .before .before .args .log)) (c .before .before .before .before .before .loop .i))
+    let a = c .before .before .before .before .before .before .before in
+    let l = c .before .before .before .before .before .loop in
+    omega (
+      arith,
+      c .before .place .ensures,
+      a .pre .log-from,
+      place-within _ (a .pre .is-sound) (a .pre .not-over) (l .i) (c .before .before .before .before .loop-test .taken),
+      ap length (l .inv .1),
+      late-length (a .args .state) (a .args .ran) (a .args .report) (now (a .args .log)) (l .i),
+    )
 
 add-i : tie.Need-add-i Inv-loop μ-loop
 add-i c = omega arith
@@ -41,7 +50,9 @@ loop-less : tie.Need-loop-less Inv-loop μ-loop
 loop-less c = omega arith
 
 loop-again : tie.Need-loop-again Inv-loop μ-loop
-loop-again c = (omega arith, one-more-late _ _ _ _ _ _ _ _ _ _ (c .before .before .before .before .before .before .before .before .loop .inv .1) (c .before .before .before .before .before .before .after-slice .ensures) (c .before .before .before .before .place .ensures) (c .before .before .before .last-slice .ensures) (c .before .before .write-late .ensures))
+loop-again c =
+    let b = c .before .before .before .before in
+    (omega arith, one-more-late _ _ _ _ _ _ _ _ _ _ (b .before .before .before .before .loop .inv .1) (b .before .before .after-slice .ensures) (b .place .ensures) (c .before .before .before .last-slice .ensures) (c .before .before .write-late .ensures))
 
 same-length : tie.Need-same-length Inv-loop μ-loop
 same-length c = ap length (c .before .loop .inv .1) ∙ late-length _ _ _ _ (c .before .loop .i)

@@ -29,7 +29,8 @@ array-copy-out-job c = omega arith
 add-in-all : tie.Need-add-in-all
 unfolding runtimeOf jobOf noTiming fresh
 add-in-all c =
-    let T = c .before .before .before .before .before .before .before .pre .is-sound .tasks-sound (c .before .before .before .before .before .before .before .args .ran - 1) (omega arith) in
+    let a = c .before .before .before .before .before .before .before in
+    let T = a .pre .is-sound .tasks-sound (a .args .ran - 1) (omega arith) in
     omega (arith, T .used-to, T .runtime-to, T .period-to)
 
 place-requires : tie.Need-place-requires
@@ -37,14 +38,17 @@ place-requires c κs = (c .before .before .before .before .before .before .befor
 
 write-result-requires : tie.Need-write-result-requires
 write-result-requires c κs =
-    omega (arith, c .before .place .ensures, c .before .before .before .before .before .before .before .before .before .before .pre .log-from, place-within _ (c .before .before .before .before .before .before .before .before .before .before .pre .is-sound) (c .before .before .before .before .before .before .before .before .before .before .pre .not-over) (c .before .before .before .before .before .before .before .before .before .before .args .ran - 1) (omega arith))
+    let a = c .before .before .before .before .before .before .before .before .before .before in
+    omega (arith, c .before .place .ensures, a .pre .log-from, place-within _ (a .pre .is-sound) (a .pre .not-over) (a .args .ran - 1) (omega arith))
 
 same-length : tie.Need-same-length
 same-length c = search needs
 
 returns-2 : tie.Need-returns-2
 unfolding runtimeOf jobOf noTiming fresh
-returns-2 c = its-result _ _ _ _ _ _ (c .before .before .before .before .before .before .before .before .before .before .before .if1 .left) (c .before .before .before .before .place .ensures) (c .before .before .write-result .ensures)
+returns-2 c =
+    let b = c .before .before .before .before in
+    its-result _ _ _ _ _ _ (b .before .before .before .before .before .before .before .if1 .left) (b .place .ensures) (c .before .before .write-result .ensures)
 
 pub mark-result-spec : {M : Type 1} → statement M
 mark-result-spec =

@@ -28,11 +28,14 @@ array-copy-out-task c = omega (arith, c .before .before .before .pre .0 .count-t
 
 div-jobs : tie.Need-div-jobs Inv-loop μ-loop
 unfolding periodOf noTiming
-div-jobs c = c .before .before .before .before .before .pre .0 .tasks-sound (c .before .before .before .loop .j) (omega arith) .period-from
+div-jobs c =
+    c .before .before .before .before .before .pre .0 .tasks-sound (c .before .before .before .loop .j) (omega arith) .period-from
 
 add-jobs : tie.Need-add-jobs Inv-loop μ-loop
 unfolding periodOf noTiming
-add-jobs c = omega (arith, c .before .before .before .before .before .pre .0 .count-to, c .before .before .before .before .before .pre .0 .cycle-to, div-le-self (c .before .before .before .before .before .args .state .cycle) (periodOf (c .before .before .before .before .before .args .state) (c .before .before .before .loop .j)))
+add-jobs c =
+    let a = c .before .before .before .before .before in
+    omega (arith, a .pre .0 .count-to, a .pre .0 .cycle-to, div-le-self (a .args .state .cycle) (periodOf (a .args .state) (c .before .before .before .loop .j)))
 
 add-j : tie.Need-add-j Inv-loop μ-loop
 add-j c = omega arith
@@ -42,7 +45,10 @@ loop-less c = omega arith
 
 loop-again : tie.Need-loop-again Inv-loop μ-loop
 unfolding periodOf noTiming
-loop-again c = (omega arith, omega (arith, c .before .before .before .before .before .pre .0 .cycle-to, div-le-self (c .before .before .before .before .before .args .state .cycle) (periodOf (c .before .before .before .before .before .args .state) (c .before .before .before .loop .j))), one-more-sum _ _ _ (c .before .before .before .loop .inv .2))
+loop-again c =
+    let a = c .before .before .before .before .before in
+    let l = c .before .before .before .loop in
+    (omega arith, omega (arith, a .pre .0 .cycle-to, div-le-self (a .args .state .cycle) (periodOf (a .args .state) (l .j))), one-more-sum _ _ _ (l .inv .2))
 
 cast-result : tie.Need-cast-result Inv-loop μ-loop
 cast-result c = omega (arith, c .before .before .before .pre .0 .count-to)

@@ -19,20 +19,35 @@ offset-requires c κs = (c .before .before .pre .0, omega arith)
 
 div-result : tie.Need-div-result
 unfolding periodOf noTiming
-div-result c = c .before .before .before .before .before .pre .0 .tasks-sound (c .before .before .before .before .before .args .i) (c .before .before .before .before .before .pre .1) .period-from
+div-result c =
+    let a = c .before .before .before .before .before in
+    a .pre .0 .tasks-sound (a .args .i) (a .pre .1) .period-from
 
 cast-result : tie.Need-cast-result
 unfolding periodOf noTiming
-cast-result c = omega (arith, c .before .before .before .before .before .pre .0 .position-to, c .before .before .before .before .before .pre .0 .cycle-to, div-le-self (c .before .before .before .before .before .args .state .position) (periodOf (c .before .before .before .before .before .args .state) (c .before .before .before .before .before .args .i)))
+cast-result c =
+    let a = c .before .before .before .before .before in
+    omega (arith, a .pre .0 .position-to, a .pre .0 .cycle-to, div-le-self (a .args .state .position) (periodOf (a .args .state) (a .args .i)))
 
 add-result : tie.Need-add-result
 unfolding periodOf noTiming
 add-result c =
-    omega (arith, c .before .before .offset .ensures, offset-most _ (c .before .before .before .before .before .pre .0) (c .before .before .before .before .before .args .i) (omega arith), c .before .before .before .before .before .pre .0 .count-to, c .before .before .before .before .before .pre .0 .position-to, c .before .before .before .before .before .pre .0 .cycle-to, div-le-self (c .before .before .before .before .before .args .state .position) (periodOf (c .before .before .before .before .before .args .state) (c .before .before .before .before .before .args .i)))
+    let a = c .before .before .before .before .before in
+    omega (
+      arith,
+      c .before .before .offset .ensures,
+      offset-most _ (a .pre .0) (a .args .i) (omega arith),
+      a .pre .0 .count-to,
+      a .pre .0 .position-to,
+      a .pre .0 .cycle-to,
+      div-le-self (a .args .state .position) (periodOf (a .args .state) (a .args .i)),
+    )
 
 returns : tie.Need-returns
 unfolding place periodOf noTiming
-returns c = ap (λ (x : ℕ). x + c .before .before .before .before .before .args .state .position / periodOf (c .before .before .before .before .before .args .state) (c .before .before .before .before .before .args .i)) (c .before .before .offset .ensures)
+returns c =
+    let a = c .before .before .before .before .before .args in
+    ap (λ (x : ℕ). x + a .state .position / periodOf (a .state) (a .i)) (c .before .before .offset .ensures)
 
 pub place-spec : {M : Type 1} → statement M
 place-spec =
