@@ -1,5 +1,5 @@
--- A lent run of bytes, or any list, that is written over from the front.
-use mathlib.Core.Path.{_≡_, refl, ap₂, _∙_}
+-- A list that is written over from the front, and its laws.
+use mathlib.Core.Path.{_≡_, refl, sym, ap, ap₂, _∙_}
 use mathlib.Core.List.{List}
 use mathlib.Core.Logic.{⊎-elim}
 use Prim.Native.Nat.{ℕ, zero, suc, _≤_, _<_}
@@ -8,7 +8,7 @@ use lib.ListN.{length, getD, set, length-set}
 use lib.Seq.{getD-set-same, getD-set-other}
 use Rattle.basis.specs.Choose.{below-suc}
 
--- The first n places are f 0, f 1, .. and the others as they were.
+-- The first n elements are f 0, f 1, .. and the others as they were.
 unfoldable pub overwrite : {A : Type 0} → (ℕ → A) → ℕ → List A → List A
 overwrite f zero old = old
 overwrite f (suc n) old = set (overwrite f n old) n (f n)
@@ -19,18 +19,21 @@ module _ {A : Type 0} (f : ℕ → A) (old : List A) where
   overwrite-length zero = refl
   overwrite-length (suc n) = length-set (overwrite f n old) n (f n) ∙ overwrite-length n
 
-  pub overwrite-from : (d : A) (n i : ℕ) → n ≤ i → getD (overwrite f n old) i d ≡ getD old i d
+  -- From n on nothing changes,
+  pub overwrite-kept : (d : A) (n i : ℕ) → n ≤ i → getD (overwrite f n old) i d ≡ getD old i d
   unfolding overwrite
-  overwrite-from d zero i l = refl
-  overwrite-from d (suc n) i l = getD-set-other (overwrite f n old) n i (f n) d (λ e. omega arith) ∙ overwrite-from d n i (omega arith)
+  overwrite-kept d zero i l = refl
+  overwrite-kept d (suc n) i l = getD-set-other (overwrite f n old) n i (f n) d (λ e. omega arith) ∙ overwrite-kept d n i (omega arith)
 
-  pub overwrite-below : (d : A) (n i : ℕ) → n ≤ length old → i < n → getD (overwrite f n old) i d ≡ f i
+  -- and below n, where the list reaches that far, stand the values of f.
+  pub overwrite-at : (d : A) (n i : ℕ) → i < n → i < length old → getD (overwrite f n old) i d ≡ f i
   unfolding overwrite
-  overwrite-below d zero i ln l = absurd (omega arith)
-  overwrite-below d (suc n) i ln l =
+  overwrite-at d zero i l k = absurd (omega arith)
+  overwrite-at d (suc n) i l k =
       ⊎-elim
-      (λ (b : i < n). getD-set-other (overwrite f n old) n i (f n) d (λ e. omega arith) ∙ overwrite-below d n i (omega arith) b)
-      (λ (e : i ≡ n). rw e (getD-set-same (overwrite f n old) n (f n) d (omega (arith, overwrite-length n))))
+      (λ (b : i < n). getD-set-other (overwrite f n old) n i (f n) d (λ e. omega arith) ∙ overwrite-at d n i b k)
+      (λ (e : i ≡ n).
+      ap (λ (x : ℕ). getD (overwrite f (suc n) old) x d) e ∙ getD-set-same (overwrite f n old) n (f n) d (omega (arith, overwrite-length n)) ∙ sym (ap f e))
       (below-suc i n l)
 
 -- It goes by the values below n alone.

@@ -1,7 +1,7 @@
 -- A choice between two values by a test, with its two laws, and the two ways to decide an order or an equation of numbers.
 use mathlib.Core.Path.{_≡_, refl, sym, _∙_}
-use mathlib.Core.Bool.{Bool, true, false}
-use mathlib.Core.Logic.{_⊎_, inl, inr, ⊎-elim}
+use mathlib.Core.Bool.{Bool, true, false, true≢false, _&&_, _||_}
+use mathlib.Core.Logic.{_⊎_, inl, inr, ⊎-elim, _↔_}
 use Prim.Native.Nat.{ℕ, suc, _≤_, _<_}
 use native.Mathlib.Omega.{arith}
 use native.Mathlib.Nat.{not-le-of-lt}
@@ -41,6 +41,19 @@ pub ruleset cases = (yes-so, no-so, lt-ltb, le-ltb, le-leb, lt-leb, eq-eqb, ne-e
 pub bool-cases : (b : Bool) → (b ≡ true) ⊎ (b ≡ false)
 bool-cases true = inl refl
 bool-cases false = inr refl
+
+-- what two tests together tell
+pub both-true : (a b : Bool) → ((a && b) ≡ true) ↔ ((a ≡ true) × (b ≡ true))
+both-true true b = (λ e. (refl, e), λ h. h .1)
+both-true false b = (λ e. absurd (true≢false (sym e)), λ h. h .0)
+
+pub both-false : (a b : Bool) → ((a && b) ≡ false) ↔ (a ≡ true → b ≡ false)
+both-false true b = (λ e _. e, λ h. h refl)
+both-false false b = (λ _ h. absurd (true≢false (sym h)), λ _. refl)
+
+pub either-false : (a b : Bool) → ((a || b) ≡ false) ↔ ((a ≡ false) × (b ≡ false))
+either-false true b = (λ e. absurd (true≢false e), λ h. h .0)
+either-false false b = (λ e. (refl, e), λ h. h .1)
 
 pub le-or-lt : (a b : ℕ) → (a ≤ b) ⊎ (b < a)
 le-or-lt a b = ⊎-elim (λ h. inl (leb-true a b h)) (λ h. inr (leb-false a b h)) (bool-cases (leb a b))

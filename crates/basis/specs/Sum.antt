@@ -4,7 +4,7 @@ use mathlib.Core.Logic.{⊎-elim}
 use Prim.Native.Nat.{ℕ, zero, suc, _+_, _*_, _≤_, _<_}
 use native.Mathlib.Omega.{arith}
 use native.Mathlib.Nat.{zero-mul, add-mul}
-use Rattle.basis.specs.Choose.{eq-or-ne}
+use Rattle.basis.specs.Choose.{le-or-lt, eq-or-ne}
 
 -- f 0 + f 1 + .. + f (n - 1)
 unfoldable pub sum : (ℕ → ℕ) → ℕ → ℕ
@@ -69,3 +69,19 @@ sum-more-at f g (suc n) i x l here there =
     (λ (e : i ≡ n). omega (arith, ap f e, ap g e, sum-ext g f n (λ j lj. there j (omega arith) (λ z. omega arith))))
     (λ (ne : i ≡ n → ⊥). omega (arith, sum-more-at f g n i x (omega arith) here (λ j lj. there j (omega arith)), there n (omega arith) (λ z. ne (sym z))))
     (eq-or-ne i n)
+
+-- Parts laid one after the other do not overlap: a place in one of them tells the part and how far into it.
+before-next : (f : ℕ → ℕ) (i j k : ℕ) → k < f i → i < j → sum f i + k < sum f j
+unfolding sum
+before-next f i j k lk l = omega (arith, sum-grows f (suc i) j l)
+
+pub sum-apart : (f : ℕ → ℕ) (i j k m : ℕ) → k < f i → m < f j → sum f i + k ≡ sum f j + m → (i ≡ j) × (k ≡ m)
+sum-apart f i j k m lk lm e =
+    ⊎-elim
+    (λ (s : i ≡ j). (s, omega (arith, ap (sum f) s)))
+    (λ (ne : i ≡ j → ⊥).
+    ⊎-elim
+    (λ (l : i ≤ j). absurd (omega (arith, before-next f i j k lk (omega arith))))
+    (λ (l : j < i). absurd (omega (arith, before-next f j i m lm l)))
+    (le-or-lt i j))
+    (eq-or-ne i j)

@@ -9,7 +9,7 @@ use native.Mathlib.Numerals.{add-one}
 use lib.ListN.{set}
 use borrow.Author.Tests.{lt-ltb, le-ltb, eq-eqb, ne-eqb}
 use Rattle.basis.specs.Choose.{choose, choose-yes, choose-no}
-use Rattle.basis.specs.Bytes.{overwrite, overwrite-from}
+use Rattle.basis.specs.Bytes.{overwrite, overwrite-kept}
 use Rattle.plan.specs.Plan.{IsFirst, NoneWants, FirstTask, firstOf, first, ranksBefore}
 use Rattle.plan.specs.Rank.{first-law, later-place-later}
 use Rattle.tasks.specs.declared.TaskList.{TaskList}
@@ -104,7 +104,7 @@ unfolding overwrite jobAt
 one-more-turned period t i old now g e q =
     rw add-one
     (ap₂ (λ (js : List Job) (x : Job). set js i x) e
-    (q ∙ ap (turnedOf (period i) t) (ap (λ (js : List Job). jobAt js i) e ∙ overwrite-from _ old noJob i i (omega arith))))
+    (q ∙ ap (turnedOf (period i) t) (ap (λ (js : List Job). jobAt js i) e ∙ overwrite-kept _ old noJob i i (omega arith))))
 
 -- ---- the tighter of two tasks, of which the second is the earlier
 module _ (margin key : ℕ → ℕ) (i best : ℕ) (earlier-place : best < i) where

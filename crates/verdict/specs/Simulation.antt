@@ -10,7 +10,7 @@ use lib.ListN.{length, length-set, length-replicate, getD-replicate}
 use lib.Seq.{getD-set-same, getD-set-other}
 use borrow.Author.Tests.{lt-ltb, le-ltb, eq-eqb, ne-eqb}
 use Rattle.basis.specs.Choose.{choose, choose-yes, choose-no, le-or-lt, eq-or-ne}
-use Rattle.basis.specs.Bytes.{overwrite-length, overwrite-below}
+use Rattle.basis.specs.Bytes.{overwrite-length, overwrite-at}
 use Rattle.plan.specs.Plan.{Plan, Sound, age, keyIn, pick, had, entry, table}
 use Rattle.plan.specs.Rank.{first-ext}
 use Rattle.plan.specs.Work.{gets-one, gets-none}
@@ -130,7 +130,7 @@ module _ (l : TaskList) (B : Bounded l) where
     turn-holds {e} h = record {
       places = overwrite-length _ jobs (l .count) ∙ h .places;
       job-is = λ i li.
-          overwrite-below _ jobs noJob (l .count) i (omega (arith, h .places, B .keeps .few)) li
+          overwrite-at _ jobs noJob (l .count) i li (omega (arith, h .places, B .keeps .few))
           ∙ ap (turnedOf (periodIn l i) t) (h .job-is i li)
           ∙ ap (λ (x : ℕ). jobOf x (e i)) (turn-had i li);
     }

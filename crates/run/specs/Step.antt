@@ -1,0 +1,100 @@
+-- The step that closes the slice at the state's position: refusals 9 to 14, the log and the next state.
+use mathlib.Core.Path.{_≡_}
+use mathlib.Core.List.{List}
+use mathlib.Core.Bool.{not, _&&_, _||_}
+use Prim.Native.Nat.{ℕ, zero, suc, _+_, _%_, _^_}
+use lib.Dec.{ltb, eqb}
+use lib.ListN.{length, set}
+use Rattle.basis.specs.Choose.{choose}
+use Rattle.basis.specs.Bytes.{overwrite}
+use Rattle.run.specs.declared.Job.{Job}
+use Rattle.run.specs.declared.State.{State}
+use Rattle.run.specs.declared.Closed.{Closed}
+use Rattle.run.specs.declared.Closed.the-variants.{Accepted, Refused}
+use Rattle.run.specs.declared.Next.{Next}
+use Rattle.run.specs.State.{fresh, runtimeOf, jobOf, jobCount, place, lastSlice}
+use Rattle.run.specs.Who.{running, orNext, whoRefusal}
+
+-- ---- refusals 12 to 14, after 9 to 11
+-- 12: log shorter than the job count.
+unfoldable pub of12 : State → List ℕ → ℕ
+of12 s log = choose (ltb (length log) (jobCount s)) 12 0
+
+-- After 4,294,967,295 comes 0.
+unfoldable pub nextClock : ℕ → ℕ
+nextClock clock = (clock + 1) % 2 ^ 32
+
+-- 13: clock reading wrong: not one more than the last.
+unfoldable pub of13 : State → ℕ → ℕ
+of13 s clock = choose (eqb clock (nextClock (s .clock))) 0 13
+
+-- 14: report above 1, or finished in an idle slice.
+unfoldable pub of14 : ℕ → ℕ → ℕ
+of14 ran report = choose (ltb 1 report || (eqb report 1 && eqb ran 0)) 14 0
+
+-- A step goes 9 to 14.
+unfoldable pub stepRefusal : State → List ℕ → ℕ → ℕ → List ℕ → ℕ
+stepRefusal s table clock report log =
+    orNext (whoRefusal s table) (orNext (of12 s log) (orNext (of13 s clock) (of14 (running s table) report)))
+
+-- ---- what the slice does, `ran` being the entry of the task that ran and `report` 0 for still working, 1 for finished
+-- The task that ran used one slice more. Its job has ended if it finished, or if this slice completes its run-time.
+unfoldable pub afterSlice : State → ℕ → ℕ → ℕ → Job
+afterSlice s ran report i =
+    choose (eqb ran (suc i))
+    (record { used = jobOf s i .used + 1; ended = eqb report 1 || eqb (jobOf s i .used + 1) (runtimeOf s i) })
+    (jobOf s i)
+
+-- Finished writes 1 (done) for that job. Still working in the slice that completes its run-time writes 2 (over).
+unfoldable pub resultOf : State → ℕ → ℕ → List ℕ → List ℕ
+resultOf s i report log =
+    choose (eqb report 1) (set log (place s i) 1) (choose (eqb (jobOf s i .used + 1) (runtimeOf s i)) (set log (place s i) 2) log)
+
+unfoldable pub withResult : State → ℕ → ℕ → List ℕ → List ℕ
+withResult s zero report log = log
+withResult s (suc i) report log = resultOf s i report log
+
+-- Then every task with a deadline after this slice whose job has not ended gets 3 (late), task by task.
+unfoldable pub withLate : State → ℕ → ℕ → List ℕ → ℕ → List ℕ
+withLate s ran report log zero = log
+withLate s ran report log (suc i) =
+    choose (lastSlice s i && not (afterSlice s ran report i .ended)) (set (withLate s ran report log i) (place s i) 3) (withLate s ran report log i)
+
+unfoldable pub logAfter : State → ℕ → ℕ → List ℕ → List ℕ
+logAfter s ran report log = withLate s ran report (withResult s ran report log) (s .count)
+
+-- And each task with a deadline there begins a fresh job.
+unfoldable pub jobAfter : State → ℕ → ℕ → ℕ → Job
+jobAfter s ran report i = choose (lastSlice s i) fresh (afterSlice s ran report i)
+
+-- The position rises by one. Places beyond the task count are handed on.
+unfoldable pub stateAfter : State → ℕ → ℕ → ℕ → State
+stateAfter s ran clock report =
+    record {
+      tasks = s .tasks;
+      jobs = overwrite (jobAfter s ran report) (s .count) (s .jobs);
+      count = s .count;
+      cycle = s .cycle;
+      position = s .position + 1;
+      clock = clock;
+      mode = s .mode;
+    }
+
+-- ---- the step
+-- A refused step gives back the state that it got and writes nothing.
+unfoldable pub answerOf : ℕ → Closed
+answerOf zero = Accepted
+answerOf (suc n) = Refused (suc n)
+
+unfoldable pub nextState : ℕ → State → State → State
+nextState zero s after = after
+nextState (suc n) s after = s
+
+unfoldable pub nextLog : ℕ → List ℕ → List ℕ → List ℕ
+nextLog zero log after = after
+nextLog (suc n) log after = log
+
+pub record Stepped (s : State) (table : List ℕ) (clock report : ℕ) (log log′ : List ℕ) (r : Next) : Type 0 where
+  pub answer : r .answer ≡ answerOf (stepRefusal s table clock report log)
+  pub state : r .state ≡ nextState (stepRefusal s table clock report log) s (stateAfter s (running s table) clock report)
+  pub bytes : log′ ≡ nextLog (stepRefusal s table clock report log) log (logAfter s (running s table) report log)

@@ -1,0 +1,80 @@
+-- Who runs in the slice at the state's position, and refusals 9 to 11.
+use mathlib.Core.List.{List}
+use mathlib.Core.Bool.{_||_}
+use Prim.Native.Nat.{ℕ, zero, suc}
+use lib.Dec.{ltb, eqb}
+use lib.ListN.{length, getD}
+use Rattle.basis.specs.Choose.{choose}
+use Rattle.plan.specs.Plan.{first}
+use Rattle.run.specs.declared.Mode.{Mode}
+use Rattle.run.specs.declared.Mode.the-variants.{Table, Filling}
+use Rattle.run.specs.declared.State.{State}
+use Rattle.run.specs.declared.Runner.{Runner}
+use Rattle.run.specs.declared.Runner.the-variants.{Idle, Task, Refused}
+use Rattle.run.specs.State.{periodOf, jobOf, sound}
+
+-- ---- who runs
+-- By the table, the task of the entry, unless its current job has ended (then idle).
+unfoldable pub unlessEnded : State → ℕ → ℕ
+unlessEnded s zero = 0
+unlessEnded s (suc i) = choose (jobOf s i .ended) 0 (suc i)
+
+-- Filling, the first-ranking task whose current job has not ended.
+unfoldable pub firstOpen : State → ℕ
+firstOpen s = first (periodOf s) (λ i. choose (jobOf s i .ended) 0 1) (s .count)
+
+-- An entry: 0 where nobody runs.
+unfoldable pub runningBy : Mode → State → List ℕ → ℕ
+runningBy Table s table = unlessEnded s (getD table (s .position) 0)
+runningBy Filling s table = firstOpen s
+
+unfoldable pub running : State → List ℕ → ℕ
+running s table = runningBy (s .mode) s table
+
+-- ---- refusals 9 to 11
+-- A number of refusal; 0 for none. The first that applies is given.
+unfoldable pub orNext : ℕ → ℕ → ℕ
+orNext zero n = n
+orNext (suc m) n = suc m
+
+-- 9: state not sound.
+unfoldable pub of9 : State → ℕ
+of9 s = choose (sound s) 0 9
+
+-- 10: run over (position is the cycle).
+unfoldable pub of10 : State → ℕ
+of10 s = choose (eqb (s .position) (s .cycle)) 10 0
+
+-- 11: by the table: length below the cycle, or the entry above the task count.
+unfoldable pub of11By : Mode → State → List ℕ → ℕ
+of11By Table s table = choose (ltb (length table) (s .cycle) || ltb (s .count) (getD table (s .position) 0)) 11 0
+of11By Filling s table = 0
+
+unfoldable pub of11 : State → List ℕ → ℕ
+of11 s table = of11By (s .mode) s table
+
+-- Asking who runs goes 9 to 11.
+unfoldable pub whoRefusal : State → List ℕ → ℕ
+whoRefusal s table = orNext (of9 s) (orNext (of10 s) (of11 s table))
+
+-- ---- the answer
+unfoldable pub ofEntry : ℕ → Runner
+ofEntry zero = Idle
+ofEntry (suc i) = Task (suc i)
+
+unfoldable pub answered : ℕ → ℕ → Runner
+answered zero entry = ofEntry entry
+answered (suc n) entry = Refused (suc n)
+
+unfoldable pub whoOf : State → List ℕ → Runner
+whoOf s table = answered (whoRefusal s table) (running s table)
+
+-- The paper's number of refusal (0: none) and task for each case. Refused, it answers task 0.
+pub record WhoNumbers : Type 0 where
+  pub number : ℕ
+  pub task : ℕ
+
+unfoldable pub whoNumbers : Runner → WhoNumbers
+whoNumbers Idle = record { number = 0; task = 0 }
+whoNumbers (Task n) = record { number = 0; task = n }
+whoNumbers (Refused n) = record { number = n; task = 0 }
