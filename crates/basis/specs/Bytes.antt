@@ -2,8 +2,9 @@
 use mathlib.Core.Path.{_≡_, refl, sym, ap, ap₂, _∙_}
 use mathlib.Core.List.{List}
 use mathlib.Core.Logic.{⊎-elim}
-use Prim.Native.Nat.{ℕ, zero, suc, _≤_, _<_}
+use Prim.Native.Nat.{ℕ, zero, suc, _+_, _≤_, _<_}
 use native.Mathlib.Omega.{arith}
+use native.Mathlib.Numerals.{add-one}
 use lib.ListN.{length, getD, set, length-set}
 use lib.Seq.{getD-set-same, getD-set-other}
 use Rattle.basis.specs.Choose.{below-suc}
@@ -18,6 +19,14 @@ module _ {A : Type 0} (f : ℕ → A) (old : List A) where
   unfolding overwrite
   overwrite-length zero = refl
   overwrite-length (suc n) = length-set (overwrite f n old) n (f n) ∙ overwrite-length n
+
+  -- One place more, as a loop writes it.
+  pub overwrite-next : (n : ℕ) (l : List A) (v : A) → l ≡ overwrite f n old → v ≡ f n → set l n v ≡ overwrite f (n + 1) old
+  unfolding overwrite
+  overwrite-next n l v el ev = rw add-one (ap₂ (λ (x : List A) (y : A). set x n y) el ev)
+
+  pub overwritten-length : (n : ℕ) (l : List A) → l ≡ overwrite f n old → length l ≡ length old
+  overwritten-length n l e = ap length e ∙ overwrite-length n
 
   -- From n on nothing changes,
   pub overwrite-kept : (d : A) (n i : ℕ) → n ≤ i → getD (overwrite f n old) i d ≡ getD old i d

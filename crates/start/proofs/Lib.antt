@@ -1,0 +1,2 @@
+-- Laws that the proof of start cites.
+pub mod Answers

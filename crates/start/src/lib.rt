@@ -1,0 +1,162 @@
+// The start of a run: the list is checked anew, the state is made, and the log is cleared to no result.
+ghost use mathlib.Core.Path.{_≡_};
+ghost use Prim.Native.Nat.{_≤_};
+ghost use lib.ListN.{length};
+ghost use Rattle.basis.specs.Bytes.{overwrite};
+ghost use Rattle.start.specs.Start.{modeOf, timings, startState, noRun, Begins};
+use run::Job;
+use run::Mode;
+use run::State;
+use run::Timing;
+use tasks::TaskList;
+use verdict::Verdict;
+
+// What a start is asked for: a mode, or none named.
+pub enum Asked {
+    Table,
+    Filling,
+    Unnamed,
+}
+
+// What a start comes to. A refusal names the task and carries the margin as a verdict does.
+pub enum Begun {
+    Accepted,
+    Refused {
+        number: u32,
+        task: usize,
+        margin: i32,
+    },
+}
+
+pub struct Started {
+    pub answer: Begun,
+    pub state: State,
+}
+
+// A start with no mode named runs by the table.
+fn mode_of(asked: Asked) -> Mode
+    ensures { λ r. ⌜ r ≡ modeOf asked ⌝ }
+{
+    match asked {
+        Asked::Table => Mode::Table,
+        Asked::Filling => Mode::Filling,
+        Asked::Unnamed => Mode::Table,
+    }
+}
+
+// Periods and run-times of the tasks; places beyond the task count are 0.
+fn timings_of(list: TaskList) -> [Timing; 16]
+    requires { ⌜ list .count ≤ 16 ⌝ }
+    ensures { λ r. ⌜ r ≡ timings list ⌝ }
+{
+    let tasks = list.tasks;
+    let count = list.count;
+    let mut times = [Timing {
+        period: 0,
+        runtime: 0,
+    }; 16];
+    let mut i = 0;
+    while i < count {
+        let t = tasks[i];
+        times[i] = Timing {
+            period: t.period,
+            runtime: t.runtime,
+        };
+        i += 1;
+    }
+    times
+}
+
+fn begin(list: TaskList, cycle: u32, asked: Asked, clock: u32) -> State
+    requires { ⌜ list .count ≤ 16 ⌝ }
+    ensures { λ r. ⌜ r ≡ startState list cycle (modeOf asked) clock ⌝ }
+{
+    State {
+        tasks: timings_of(list),
+        jobs: [Job {
+            used: 0,
+            ended: false,
+        }; 16],
+        count: list.count,
+        cycle,
+        position: 0,
+        clock,
+        mode: mode_of(asked),
+    }
+}
+
+// The state of a refused start.
+fn no_run() -> State
+    ensures { λ r. ⌜ r ≡ noRun ⌝ }
+{
+    State {
+        tasks: [Timing {
+            period: 0,
+            runtime: 0,
+        }; 16],
+        jobs: [Job {
+            used: 0,
+            ended: false,
+        }; 16],
+        count: 0,
+        cycle: 0,
+        position: 0,
+        clock: 0,
+        mode: Mode::Table,
+    }
+}
+
+// No result for the first so many jobs.
+fn clear(log: &mut [u8], jobs: usize)
+    requires { ⌜ jobs ≤ length (now log) ⌝ }
+    ensures { λ _. ⌜ now (log .exit) ≡ overwrite (λ _. 0) jobs (now (log .entry)) ⌝ }
+{
+    let mut i = 0;
+    while i < jobs {
+        log[i] = 0;
+        i += 1;
+    }
+}
+
+// Starts a run of a list by a mode, at a clock reading, with a lent log.
+pub fn start(list: TaskList, supply: u32, asked: Asked, clock: u32, log: &mut [u8]) -> Started
+    ensures { λ r. ⌜ Begins list supply asked clock (now (log .entry)) (now (log .exit)) r ⌝ }
+{
+    let verdict = verdict::judge(list, supply);
+    match verdict {
+        Verdict::Refused {
+            number,
+            task,
+            margin,
+        } => Started {
+            answer: Begun::Refused {
+                number,
+                task,
+                margin,
+            },
+            state: no_run(),
+        },
+        Verdict::Accepted {
+            cycle,
+            jobs,
+            task: _,
+            margin: _,
+        } => {
+            if log.len() < jobs as usize {
+                return Started {
+                    answer: Begun::Refused {
+                        number: 12,
+                        task: 0,
+                        margin: 0,
+                    },
+                    state: no_run(),
+                };
+            }
+            clear(log, jobs as usize);
+            Started {
+                answer: Begun::Accepted,
+                state: begin(list, cycle, asked, clock),
+            }
+        }
+    }
+}
