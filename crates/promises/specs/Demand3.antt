@@ -1,0 +1,176 @@
+-- Demand 3, about the contracts of start and step: take an accepted list, its own table, and any needs from one slice up. In a
+-- full run of either kind each job that needs no more than it declared is logged done, each other one over, none late, none
+-- without a result. Filling freed slices ends no job later than the run by the table with the same needs; and no job of a
+-- filling run ends later when needs are lowered, whichever jobs they belong to.
+use mathlib.Core.Path.{_≡_, refl, sym, ap, ap₂, subst, _∙_}
+use mathlib.Core.List.{List}
+use mathlib.Core.Bool.{Bool, true, false, not, true≢false}
+use mathlib.Core.Logic.{⊎-elim}
+use Prim.Native.Nat.{ℕ, zero, suc, _+_, _-_, _*_, _/_, _≤_, _<_, min}
+use native.Mathlib.Omega.{arith}
+use native.Mathlib.Nat.{div-mul-le-self, mul-le-mul-right}
+use lib.Dec.{eqb, leb}
+use lib.ListN.{length, getD}
+use borrow.Author.Tests.{eq-eqb, ne-eqb, le-leb, lt-leb, leb-true, leb-false, eqb-true, eqb-false}
+use Rattle.basis.specs.Choose.{choose, choose-yes, choose-no, bool-cases, le-or-lt, eq-or-ne}
+use Rattle.basis.specs.Sum.{sum-ext}
+use Rattle.basis.specs.Least.{least, Least, least-law}
+use Rattle.plan.specs.Plan.{Plan, Monotonic, Demand, release, deadline, given, takes, HadBy, EndsBy, EndsByTable, OnTime, OnTimeUpTo}
+use Rattle.plan.specs.Progress.{elapsed, hadUpTo, settled}
+use Rattle.plan.specs.Domination.{filling-on-time, filling-ends-no-later, lower-needs-delay-none}
+use Rattle.tasks.specs.declared.TaskList.{TaskList}
+use Rattle.tasks.specs.List.{taskAt, planOf}
+use Rattle.tasks.specs.Bounds.{cycleOf, jobSum, jobsOf}
+use Rattle.tasks.specs.Kept.{KeepsBounds, plan-monotonic}
+use Rattle.verdict.specs.Verdict.{verdictOf, numbers}
+use Rattle.start.specs.declared.Asked.{Asked}
+use Rattle.run.specs.declared.Mode.{Mode}
+use Rattle.run.specs.declared.Mode.the-variants.{Table, Filling}
+use Rattle.run.specs.declared.Closed.the-variants as closed
+use Rattle.run.specs.declared.State.{State}
+use Rattle.run.specs.State.{offset, jobCount}
+use Rattle.start.specs.Start.{modeOf, startState, begunNumbers}
+use Rattle.promises.specs.Drive.{Own, Steps, Drive, placeOf, endIn}
+use Rattle.promises.specs.Reached.{Carries, Reached, resultByte, result-some, byteUpTo, byte-result, byte-none}
+use Rattle.promises.specs.Driven.{demandOf, run-enough, run-on-time, reaches, none-refused}
+use Rattle.promises.specs.Begun.{Accepted, start-accepted, start-reached}
+
+-- ---- every slice of a drive
+module _ (l : TaskList) (supply : ℕ) (asked : Asked) (clock : ℕ) (need : Demand) (needs : (i k : ℕ) → i < l .count → 1 ≤ need i k)
+    (tab log : List ℕ) (own : Own (planOf l) (cycleOf l) tab) (D : Drive l supply asked clock need tab log) (ok : begunNumbers (D .begun .answer) .number ≡ 0) where
+  A : Accepted l supply asked clock log (D .logs 0) (D .begun)
+  A = start-accepted l supply asked clock log (D .logs 0) (D .begun) (D .begins) ok
+
+  M : Monotonic (planOf l)
+  M = plan-monotonic l supply (A .keeps)
+
+  abbrev d : Demand
+  d = demandOf (modeOf asked) (planOf l) need
+
+  whole : (i : ℕ) → i < planOf l .count → planOf l .due i ≡ planOf l .period i
+  unfolding planOf
+  whole i li = refl
+
+  begun-reached : Reached (planOf l) (cycleOf l) need d (modeOf asked) log 0 (D .states 0) (D .logs 0)
+  begun-reached =
+      rw (D .from-start ∙ A .state-is, A .log-is)
+      (start-reached l supply (A .keeps) (modeOf asked) clock log (A .room) need d needs)
+
+  reached : (p : ℕ) → p ≤ cycleOf l → Reached (planOf l) (cycleOf l) need d (modeOf asked) log p (D .states p) (D .logs p)
+  unfolding planOf
+  reached p lp = reaches (planOf l) M whole (cycleOf l) need needs (A .on-time) tab own log (D .states) (D .logs) (D .answers) (D .steps) (modeOf asked) begun-reached p lp
+
+  -- No step of a drive is refused.
+  pub no-step-refused : (p : ℕ) → p < cycleOf l → D .answers p .answer ≡ closed.Accepted
+  unfolding planOf
+  no-step-refused p lp = none-refused (planOf l) M whole (cycleOf l) need needs (A .on-time) tab own log (D .states) (D .logs) (D .answers) (D .steps) (modeOf asked) begun-reached p lp
+
+  -- the places of the jobs stay where the list puts them
+  offset-is : (p : ℕ) → p ≤ cycleOf l → (i : ℕ) → i ≤ l .count → offset (D .states p) i ≡ jobSum (l .tasks) (cycleOf l) i
+  unfolding offset jobSum planOf
+  offset-is p lp i li =
+      let C = reached p lp .carries in
+      sum-ext _ _ i (λ j lj. ap₂ _/_ (C .cycle-is) (C .period-is j (omega arith)))
+
+  byte-at : (p : ℕ) → p ≤ cycleOf l → (i k : ℕ) → i < l .count → k < cycleOf l / planOf l .period i → getD (D .logs p) (placeOf l i k) 0 ≡ byteUpTo (planOf l) need d i k p
+  unfolding placeOf planOf
+  byte-at p lp i k li lk = ap (λ (x : ℕ). getD (D .logs p) (x + k) 0) (sym (offset-is p lp i (omega arith))) ∙ reached p lp .bytes-are i k li lk
+
+  -- every job's deadline lies within the cycle
+  deadline-within : (i k : ℕ) → i < l .count → k < cycleOf l / planOf l .period i → deadline (planOf l) i k ≤ cycleOf l
+  unfolding deadline release planOf
+  deadline-within i k li lk =
+      omega (arith, div-mul-le-self (cycleOf l) (taskAt (l .tasks) i .period), mul-le-mul-right (taskAt (l .tasks) i .period) lk)
+
+  has-ended : (i k : ℕ) → i < l .count → k < cycleOf l / planOf l .period i → takes (planOf l) need i k ≤ hadUpTo (planOf l) d i k (cycleOf l)
+  unfolding planOf OnTimeUpTo OnTime HadBy
+  has-ended i k li lk =
+      omega (arith,
+        settled (planOf l) (M .sound) d i li k (cycleOf l) (deadline-within i k li lk),
+        on-time-run i k li (deadline-within i k li lk),
+        enough-run i k li)
+    where
+      on-time-run : OnTimeUpTo (planOf l) (demandOf (modeOf asked) (planOf l) need) (cycleOf l)
+      on-time-run = run-on-time (planOf l) M (cycleOf l) need (A .on-time) (modeOf asked)
+      enough-run : (i k : ℕ) → i < l .count → takes (planOf l) need i k ≤ demandOf (modeOf asked) (planOf l) need i k
+      enough-run i k li = run-enough (planOf l) need (modeOf asked) i k
+
+  -- ---- the log after the drive
+  -- Each byte is 1 where the need is at most the run-time, and 2 elsewhere: none is 3, none is 0.
+  pub logged : (i k : ℕ) → i < l .count → k < cycleOf l / planOf l .period i → getD (D .logs (cycleOf l)) (placeOf l i k) 0 ≡ choose (leb (need i k) (planOf l .runtime i k)) 1 2
+  unfolding resultByte
+  logged i k li lk = byte-at (cycleOf l) (omega arith) i k li lk ∙ byte-result (planOf l) need d i k (cycleOf l) (has-ended i k li lk)
+
+  -- The bytes beyond the job count are what they were.
+  pub beyond-kept : (x : ℕ) → jobsOf l ≤ x → getD (D .logs (cycleOf l)) x 0 ≡ getD log x 0
+  unfolding jobsOf jobCount planOf
+  beyond-kept x lx =
+      let R = reached (cycleOf l) (omega arith) in
+      R .beyond x (omega (arith, ap (offset (D .states (cycleOf l))) (R .carries .count-is), offset-is (cycleOf l) (omega arith) (l .count) (omega arith)))
+
+  pub length-kept : length (D .logs (cycleOf l)) ≡ length log
+  length-kept = reached (cycleOf l) (omega arith) .long
+
+  -- A job is logged by position p exactly if it has had what it takes by then.
+  logged-has : (p : ℕ) → p ≤ cycleOf l → (i k : ℕ) → i < l .count → k < cycleOf l / planOf l .period i → not (eqb (getD (D .logs p) (placeOf l i k) 0) 0) ≡ true → takes (planOf l) need i k ≤ hadUpTo (planOf l) d i k p
+  logged-has p lp i k li lk t =
+      ⊎-elim
+      (λ (h : takes (planOf l) need i k ≤ hadUpTo (planOf l) d i k p). h)
+      (λ (h : hadUpTo (planOf l) d i k p < takes (planOf l) need i k).
+        absurd (true≢false (sym t ∙ ap not (eq-eqb _ 0 (byte-at p lp i k li lk ∙ byte-none (planOf l) need d i k p h)))))
+      (le-or-lt (takes (planOf l) need i k) (hadUpTo (planOf l) d i k p))
+
+  has-logged : (p : ℕ) → p ≤ cycleOf l → (i k : ℕ) → i < l .count → k < cycleOf l / planOf l .period i → takes (planOf l) need i k ≤ hadUpTo (planOf l) d i k p → not (eqb (getD (D .logs p) (placeOf l i k) 0) 0) ≡ true
+  has-logged p lp i k li lk h =
+      ap not (ne-eqb _ 0 (λ z. result-some (planOf l) need i k (sym (byte-at p lp i k li lk ∙ byte-result (planOf l) need d i k p h) ∙ z)))
+
+-- ---- ends
+-- what passes sooner has a smaller least
+sooner : (f g : ℕ → Bool) (n : ℕ) → ((p : ℕ) → p ≤ n → f p ≡ true → g p ≡ true) → least g n ≤ least f n
+sooner f g n h =
+    let F = least-law f n in
+    let G = least-law g n in
+    ⊎-elim
+    (λ (l : least g n ≤ least f n). l)
+    (λ (l : least f n < least g n). absurd (true≢false (sym (h (least f n) (F .within) (F .passes (omega (arith, G .within)))) ∙ G .none-before (least f n) l)))
+    (le-or-lt (least g n) (least f n))
+
+module _ (l : TaskList) (supply supply′ : ℕ) (asked asked′ : Asked) (clock clock′ : ℕ) (need need′ : Demand)
+    (needs : (i k : ℕ) → i < l .count → 1 ≤ need i k) (needs′ : (i k : ℕ) → i < l .count → 1 ≤ need′ i k)
+    (tab log tab′ log′ : List ℕ) (own : Own (planOf l) (cycleOf l) tab) (own′ : Own (planOf l) (cycleOf l) tab′)
+    (D : Drive l supply asked clock need tab log) (D′ : Drive l supply′ asked′ clock′ need′ tab′ log′)
+    (ok : begunNumbers (D .begun .answer) .number ≡ 0) (ok′ : begunNumbers (D′ .begun .answer) .number ≡ 0) where
+  -- where what has ended in one run has ended in the other, no job of the other ends later
+  no-later : ((i k p : ℕ) → i < l .count → k < cycleOf l / planOf l .period i → p ≤ cycleOf l
+      → takes (planOf l) need i k ≤ hadUpTo (planOf l) (demandOf (modeOf asked) (planOf l) need) i k p
+      → takes (planOf l) need′ i k ≤ hadUpTo (planOf l) (demandOf (modeOf asked′) (planOf l) need′) i k p)
+    → (i k : ℕ) → i < l .count → k < cycleOf l / planOf l .period i → endIn l (D′ .logs) i k ≤ endIn l (D .logs) i k
+  unfolding endIn
+  no-later h i k li lk =
+      sooner _ _ (cycleOf l) (λ p lp t.
+        has-logged l supply′ asked′ clock′ need′ needs′ tab′ log′ own′ D′ ok′ p lp i k li lk
+        (h i k p li lk lp (logged-has l supply asked clock need needs tab log own D ok p lp i k li lk t)))
+
+  within-window : (i k p : ℕ) → i < l .count → k < cycleOf l / planOf l .period i → p ≤ cycleOf l → release (planOf l) i k + elapsed (planOf l) i k p ≤ cycleOf l
+  unfolding elapsed release planOf
+  within-window i k p li lk lp =
+      omega (arith, div-mul-le-self (cycleOf l) (taskAt (l .tasks) i .period), mul-le-mul-right (taskAt (l .tasks) i .period) lk)
+
+  abbrev begun-as : Accepted l supply asked clock log (D .logs 0) (D .begun)
+  begun-as = start-accepted l supply asked clock log (D .logs 0) (D .begun) (D .begins) ok
+
+  within-due : (i k p : ℕ) → elapsed (planOf l) i k p ≤ planOf l .due i
+  unfolding elapsed
+  within-due i k p = omega arith
+
+  -- Filling freed slices ends no job later than the run by the table with the same needs.
+  pub filling-no-later : modeOf asked ≡ Table → modeOf asked′ ≡ Filling → need′ ≡ need → (i k : ℕ) → i < l .count → k < cycleOf l / planOf l .period i → endIn l (D′ .logs) i k ≤ endIn l (D .logs) i k
+  unfolding demandOf hadUpTo HadBy planOf
+  filling-no-later et ef en = no-later (λ i k p li lk lp h.
+    rw (ef, en) (filling-ends-no-later (planOf l) (plan-monotonic l supply (begun-as .keeps) .sound) (cycleOf l) (begun-as .on-time) need i k (elapsed (planOf l) i k p) li (within-due i k p) (within-window i k p li lk lp) (rw et at h)))
+
+  -- No job of a filling run ends later when needs are lowered, whichever jobs they belong to.
+  pub lower-no-later : modeOf asked ≡ Filling → modeOf asked′ ≡ Filling → ((i k : ℕ) → i < l .count → need′ i k ≤ need i k) → (i k : ℕ) → i < l .count → k < cycleOf l / planOf l .period i → endIn l (D′ .logs) i k ≤ endIn l (D .logs) i k
+  unfolding demandOf hadUpTo HadBy planOf
+  lower-no-later e e′ less = no-later (λ i k p li lk lp h.
+    rw e′ (lower-needs-delay-none (planOf l) (plan-monotonic l supply (begun-as .keeps) .sound) (cycleOf l) (begun-as .on-time) need need′ less i k (elapsed (planOf l) i k p) li (within-due i k p) (within-window i k p li lk lp) (rw e at h)))

@@ -1,0 +1,162 @@
+-- Every step of a drive is accepted, and leads from one slice's state and log to the next's; so through the whole cycle.
+use mathlib.Core.Path.{_≡_, refl, sym, ap, ap₂, subst, _∙_}
+use mathlib.Core.List.{List}
+use mathlib.Core.Bool.{Bool, true, false}
+use mathlib.Core.Logic.{⊎-elim}
+use Prim.Native.Nat.{ℕ, zero, suc, _+_, _-_, _/_, _≤_, _<_, min}
+use native.Mathlib.Omega.{arith}
+use lib.Dec.{eqb, leb}
+use borrow.Author.Tests.{eq-eqb, ne-eqb, le-leb, lt-leb, leb-true, leb-false}
+use lib.ListN.{length, getD}
+use Rattle.basis.specs.Choose.{choose, choose-yes, choose-no, bool-cases, le-or-lt, eq-or-ne}
+use Rattle.plan.specs.Plan.{Plan, Monotonic, Demand, job, age, keyIn, pick, had, entry, takes, table, first, OnTimeUpTo}
+use Rattle.plan.specs.Rank.{first-same}
+use Rattle.plan.specs.Run.{age-below, lacks, lacks-open, lacks-most, had-room, entry-law}
+use Rattle.plan.specs.Counting.{entry-within}
+use Rattle.run.specs.declared.Mode.{Mode}
+use Rattle.run.specs.declared.Mode.the-variants.{Table, Filling}
+use Rattle.run.specs.declared.State.{State}
+use Rattle.run.specs.declared.Next.{Next}
+use Rattle.run.specs.declared.Closed.the-variants.{Accepted}
+use Rattle.plan.specs.Domination.{filling-on-time}
+use Rattle.run.specs.State.{periodOf, jobOf, jobCount}
+use Rattle.run.specs.Who.{unlessEnded, firstOpen, runningBy, running}
+use Rattle.run.specs.Step.{nextClock, stateAfter, logAfter, Stepped}
+use Rattle.run.specs.Accepted.{Readable, WhoAccepted, StepAccepted, step-answers}
+use Rattle.promises.specs.Drive.{reportOf, Own, Steps}
+use Rattle.promises.specs.Reached.{Reached, HasHad, reached-next, unless-open}
+
+-- ---- who runs
+-- The run that the mode follows: the table's, or the filling one's.
+unfoldable pub demandOf : Mode → Plan → Demand → Demand
+demandOf Table P need = P .runtime
+demandOf Filling P need = takes P need
+
+module _ (P : Plan) (M : Monotonic P) (whole : (i : ℕ) → i < P .count → P .due i ≡ P .period i) (cycle : ℕ) (need : Demand)
+    (start : List ℕ) (p : ℕ) (s : State) (g : List ℕ) where
+  -- Filling, the first-ranking open job is the entry of the filling run, which it has not ended.
+  module _ (R : Reached P cycle need (takes P need) Filling start p s g) where
+    abbrev b : Demand
+    b = takes P need
+
+    ended-if : (i : ℕ) → i < P .count → b i (job P i p) ≤ had P b p i → jobOf s i .ended ≡ true
+    unfolding takes
+    ended-if i li l = R .jobs-are i li .ended-is ∙ le-leb _ _ l
+
+    open-if : (i : ℕ) → i < P .count → had P b p i < b i (job P i p) → jobOf s i .ended ≡ false
+    unfolding takes
+    open-if i li l = R .jobs-are i li .ended-is ∙ lt-leb _ _ l
+
+    -- 1 where the job has not ended; a job lacks nothing exactly if it has
+    abbrev still-open : ℕ → ℕ
+    still-open i = choose (jobOf s i .ended) 0 1
+
+    none-lacking : (i : ℕ) → i < P .count → still-open i ≡ 0 → lacks P b b p i ≡ 0
+    none-lacking i li z =
+        ⊎-elim
+        (λ (l : b i (job P i p) ≤ had P b p i). omega (arith, lacks-most P b b p i))
+        (λ (l : had P b p i < b i (job P i p)). absurd (omega (arith, choose-no {A = ℕ} (jobOf s i .ended) 0 1 (open-if i li l))))
+        (le-or-lt (b i (job P i p)) (had P b p i))
+
+    lacking-none : (i : ℕ) → i < P .count → lacks P b b p i ≡ 0 → still-open i ≡ 0
+    lacking-none i li z =
+        choose-yes (jobOf s i .ended) 0 1 (ended-if i li (omega (arith, lacks-open P b b p i (omega (arith, whole i li, age-below P (M .sound) i li p)))))
+
+    keys : (i : ℕ) → i < P .count → periodOf s i ≡ keyIn P p i
+    unfolding keyIn
+    keys i li = R .carries .period-is i li ∙ sym (M .by-deadline i (job P i p) li ∙ whole i li)
+
+    first-open-is : firstOpen s ≡ entry P b p
+    unfolding firstOpen entry pick lacks
+    first-open-is =
+        ap (first (periodOf s) still-open) (R .carries .count-is)
+        ∙ first-same (periodOf s) (keyIn P p) still-open (lacks P b b p) (P .count) keys none-lacking lacking-none
+
+    entry-open : (e : ℕ) → entry P b p ≡ e → e ≡ unlessEnded s e
+    unfolding unlessEnded
+    entry-open zero q = refl
+    entry-open (suc i) q =
+        let li : i < P .count = omega (arith, entry-within P b p) in
+        sym (choose-no (jobOf s i .ended) 0 (suc i) (open-if i li (had-room P (M .sound) b i li p q)))
+
+    pub filling-runs : (tab : List ℕ) → running s tab ≡ unlessEnded s (entry P b p)
+    unfolding running runningBy
+    filling-runs tab = ap (λ (m : Mode). runningBy m s tab) (R .mode-is) ∙ first-open-is ∙ entry-open (entry P b p) refl
+
+  -- By the table, the task of the table's entry runs unless its job has ended.
+  pub table-runs : (tab : List ℕ) → Own P cycle tab → p < cycle → Reached P cycle need (P .runtime) Table start p s g → running s tab ≡ unlessEnded s (entry P (P .runtime) p)
+  unfolding running runningBy table
+  table-runs tab own lp R =
+      ap (λ (m : Mode). runningBy m s tab) (R .mode-is) ∙ ap (unlessEnded s) (ap (λ (x : ℕ). getD tab x 0) (R .position-is) ∙ own .entries p lp)
+
+-- ---- every step is accepted
+module _ (need : Demand) (s : State) where
+  report-most : (e : ℕ) → reportOf need s e ≤ 1
+  unfolding reportOf choose
+  report-most zero = omega arith
+  report-most (suc i) = go (eqb (jobOf s i .used + 1) (need i (s .position / periodOf s i)))
+    where
+      go : (t : Bool) → choose {A = ℕ} t 1 0 ≤ 1
+      go true = omega arith
+      go false = omega arith
+
+  report-runs : (e : ℕ) → reportOf need s e ≡ 1 → 0 < e
+  unfolding reportOf
+  report-runs zero q = absurd (omega arith)
+  report-runs (suc i) q = omega arith
+
+module _ (P : Plan) (cycle : ℕ) (need d : Demand) (m : Mode) (start : List ℕ) (p : ℕ) (lp : p < cycle) (s : State) (g : List ℕ) (R : Reached P cycle need d m start p s g)
+    (tab : List ℕ) (own : Own P cycle tab) where
+  drive-accepted : StepAccepted s tab (nextClock (s .clock)) (reportOf need s (running s tab)) g
+  unfolding table
+  drive-accepted = record {
+    asked = record {
+      is-sound = R .is-sound;
+      not-over = omega (arith, R .position-is, R .carries .cycle-is);
+      readable = λ _. record {
+        length-from = omega (arith, own .reaches, R .carries .cycle-is);
+        entry-to = omega (arith, ap (λ (x : ℕ). getD tab x 0) (R .position-is), own .entries p lp, entry-within P (P .runtime) p, R .carries .count-is) } };
+    log-from = omega (arith, R .room, R .long);
+    clock-next = refl;
+    report-to = report-most need s (running s tab);
+    finished-by = report-runs need s (running s tab) }
+
+-- ---- the whole drive
+-- The run that a mode follows lets every job have what it takes, and is on time where the plan is.
+pub run-enough : (P : Plan) (need : Demand) (m : Mode) (i k : ℕ) → takes P need i k ≤ demandOf m P need i k
+unfolding demandOf takes
+run-enough P need Table i k = omega arith
+run-enough P need Filling i k = omega arith
+
+pub run-on-time : (P : Plan) → Monotonic P → (cycle : ℕ) (need : Demand) → OnTimeUpTo P (P .runtime) cycle → (m : Mode) → OnTimeUpTo P (demandOf m P need) cycle
+unfolding demandOf
+run-on-time P M cycle need on Table = on
+run-on-time P M cycle need on Filling = filling-on-time P (M .sound) cycle on need
+
+module _ (P : Plan) (M : Monotonic P) (whole : (i : ℕ) → i < P .count → P .due i ≡ P .period i) (cycle : ℕ)
+    (need : Demand) (needs : (i k : ℕ) → i < P .count → 1 ≤ need i k) (on : OnTimeUpTo P (P .runtime) cycle)
+    (tab : List ℕ) (own : Own P cycle tab) (start : List ℕ) (s : ℕ → State) (g : ℕ → List ℕ) (r : ℕ → Next) (S : Steps cycle tab need s g r) where
+  runs-as : (m : Mode) (p : ℕ) → p < cycle → Reached P cycle need (demandOf m P need) m start p (s p) (g p) → running (s p) tab ≡ unlessEnded (s p) (entry P (demandOf m P need) p)
+  unfolding demandOf
+  runs-as Table p lp R = table-runs P M whole cycle need start p (s p) (g p) tab own lp R
+  runs-as Filling p lp R = filling-runs P M whole cycle need start p (s p) (g p) R tab
+
+  -- a step of the drive is accepted and leads on
+  one-step : (m : Mode) (p : ℕ) → p < cycle → Reached P cycle need (demandOf m P need) m start p (s p) (g p)
+    → (r p .answer ≡ Accepted) × Reached P cycle need (demandOf m P need) m start (suc p) (s (suc p)) (g (suc p))
+  one-step m p lp R =
+      let A = drive-accepted P cycle need (demandOf m P need) m start p lp (s p) (g p) R tab own in
+      let a = step-answers (s p) tab (nextClock (s p .clock)) (reportOf need (s p) (running (s p) tab)) (g p) (g (suc p)) (r p) A (S .stepped p lp) in
+      (a .0,
+      subst (λ (x : State). Reached P cycle need (demandOf m P need) m start (suc p) x (g (suc p))) (sym (S .handed p lp ∙ a .1))
+      (subst (λ (x : List ℕ). Reached P cycle need (demandOf m P need) m start (suc p) (stateAfter (s p) (running (s p) tab) (nextClock (s p .clock)) (reportOf need (s p) (running (s p) tab))) x) (sym (a .2))
+      (reached-next P M whole cycle need (demandOf m P need) needs (λ i k li. run-enough P need m i k) (run-on-time P M cycle need on m) m start p lp (s p) (g p) R tab (runs-as m p lp R) A)))
+
+  -- From the start on the drive reaches every slice of the cycle,
+  pub reaches : (m : Mode) → Reached P cycle need (demandOf m P need) m start 0 (s 0) (g 0) → (p : ℕ) → p ≤ cycle → Reached P cycle need (demandOf m P need) m start p (s p) (g p)
+  reaches m R zero l = R
+  reaches m R (suc p) l = one-step m p l (reaches m R p (omega arith)) .1
+
+  -- and no step of it is refused.
+  pub none-refused : (m : Mode) → Reached P cycle need (demandOf m P need) m start 0 (s 0) (g 0) → (p : ℕ) → p < cycle → r p .answer ≡ Accepted
+  none-refused m R p l = one-step m p l (reaches m R p (omega arith)) .0

@@ -1,0 +1,8 @@
+-- The demands, stated of the definitions that the public contracts cite.
+pub mod Drive
+pub mod Reached
+pub mod Driven
+pub mod Earned
+pub mod Demand2
+pub mod Begun
+pub mod Demand3
