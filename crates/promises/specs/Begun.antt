@@ -1,27 +1,25 @@
 -- What an accepted start gives: a sound state at slice 0 that carries the list's plan, and a log without a result.
-use mathlib.Core.Path.{_≡_, refl, sym, ap, ap₂, subst, _∙_}
+use mathlib.Core.Path.{_≡_, refl, sym, ap, subst, _∙_}
 use mathlib.Core.List.{List}
-use mathlib.Core.Bool.{true, false, true≢false}
+use mathlib.Core.Bool.{true≢false}
 use mathlib.Core.Logic.{⊎-elim}
-use Prim.Native.Nat.{ℕ, zero, suc, _+_, _*_, _/_, _≤_, _<_, _∣_, min}
+use Prim.Native.Nat.{ℕ, suc, _+_, _/_, _≤_, _<_, _∣_}
 use native.Mathlib.Omega.{arith}
 use native.Mathlib.Nat.{mul-pos}
-use lib.IntN.{ℤ, pos}
+use lib.IntN.{ℤ}
 use lib.ListN.{length, getD, replicate, length-replicate, getD-replicate, List·getD-eq-default}
-use borrow.Author.Tests.{lt-ltb, le-ltb, lt-leb}
-use Rattle.basis.specs.Choose.{choose, choose-yes, choose-no, le-or-lt, eq-or-ne}
-use Rattle.basis.specs.Sum.{sum, sum-ext}
+use borrow.Author.Tests.{lt-ltb, le-ltb}
+use Rattle.basis.specs.Choose.{choose-yes, choose-no, le-or-lt}
+use Rattle.basis.specs.Sum.{sum-ext}
 use Rattle.basis.specs.Bytes.{overwrite, overwrite-length, overwrite-at, overwrite-kept}
-use Rattle.plan.specs.Plan.{Plan, Monotonic, Demand, OnTimeUpTo, job, had, takes}
+use Rattle.plan.specs.Plan.{Demand, OnTimeUpTo, job, takes}
 use Rattle.plan.specs.Run.{had-first}
-use Rattle.plan.specs.Progress.{hadUpTo, nothing-before-release}
+use Rattle.plan.specs.Progress.{nothing-before-release}
 use Rattle.tasks.specs.declared.TaskList.{TaskList}
 use Rattle.tasks.specs.List.{taskAt, planOf}
-use Rattle.tasks.specs.Bounds.{cycleOf, jobSum, jobsOf, found}
-use Rattle.tasks.specs.Kept.{KeepsBounds, nothing-found, plan-monotonic, cycle-pos, period-divides-cycle}
+use Rattle.tasks.specs.Bounds.{cycleOf, jobSum, jobsOf}
+use Rattle.tasks.specs.Kept.{KeepsBounds, broken-tells, plan-monotonic, cycle-pos, period-divides-cycle}
 use Rattle.verdict.specs.declared.Verdict.{Verdict}
-use Rattle.verdict.specs.Lateness.{lateness}
-use Rattle.verdict.specs.Deadlines.{nothing-late}
 use Rattle.verdict.specs.Verdict.{verdictOf, numbers}
 use Rattle.start.specs.declared.Asked.{Asked}
 use Rattle.run.specs.declared.Mode.{Mode}
@@ -31,13 +29,13 @@ use Rattle.run.specs.declared.Job.{Job}
 use Rattle.start.specs.declared.Started.{Started}
 use Rattle.run.specs.State.{noTiming, fresh, periodOf, runtimeOf, jobOf, offset, jobCount}
 use Rattle.run.specs.Sound.{SoundState}
-use Rattle.start.specs.Start.{modeOf, timingOf, startState, begunOf, begunState, begunLog, Begins, begunNumbers}
+use Rattle.start.specs.Start.{modeOf, timings, timingOf, startState, begunOf, begunState, begunLog, Begins, begunNumbers}
 use Rattle.run.specs.Places.{job-within}
 use Rattle.verdict.specs.declared.Verdict.the-variants as verdict
 use Rattle.verdict.specs.Answers.{ByBounds, ForLateness, OnTimeAll, verdict-tells}
 use Rattle.promises.specs.Demand2.{accepted-as}
-use Rattle.promises.specs.Reached.{HasHad, fresh-has, Carries, Reached, byteUpTo, byte-none}
-use Rattle.promises.specs.Earned.{byteOf, Tells, Honest}
+use Rattle.promises.specs.Reached.{fresh-has, Carries, Reached, byte-none}
+use Rattle.promises.specs.Earned.{byteOf, Honest}
 
 -- ---- an accepted start
 pub record Accepted (l : TaskList) (supply : ℕ) (asked : Asked) (clock : ℕ) (log log′ : List ℕ) (r : Started) : Type 0 where
@@ -48,25 +46,26 @@ pub record Accepted (l : TaskList) (supply : ℕ) (asked : Asked) (clock : ℕ) 
   pub log-is : log′ ≡ overwrite (λ _. 0) (jobsOf l) log
 
 pub start-accepted : (l : TaskList) (supply : ℕ) (asked : Asked) (clock : ℕ) (log log′ : List ℕ) (r : Started)
-  → Begins l supply asked clock log log′ r → begunNumbers (r .answer) .number ≡ 0 → Accepted l supply asked clock log log′ r
+    → Begins l supply asked clock log log′ r → begunNumbers (r .answer) .number ≡ 0 → Accepted l supply asked clock log log′ r
 unfolding begunOf begunState begunLog begunNumbers
 start-accepted l supply asked clock log log′ r B z =
     ⊎-elim
-    (λ (h : ByBounds l supply (verdictOf l supply)). never (h .is) (λ n. broken-some l supply (h .number) (h .task) (h .broken) n))
+    (λ (h : ByBounds l supply (verdictOf l supply)). never (h .is) (λ n. let T = broken-tells l supply (h .number) (h .task) (h .broken) in T .some (sym (T .number-is) ∙ n)))
     (⊎-elim
     (λ (h : ForLateness l supply (verdictOf l supply)). never (h .is) (λ n. omega arith))
     (λ (h : OnTimeAll l supply (verdictOf l supply)).
-      let answer = B .answer ∙ ap (λ (v : Verdict). begunOf v (length log)) (h .is) in
-      ⊎-elim
-      (λ (le : jobsOf l ≤ length log).
-        record {
-          keeps = h .keeps;
-          on-time = h .on-time;
-          room = le;
-          state-is = B .state ∙ ap (λ (v : Verdict). begunState l asked clock v (length log)) (h .is) ∙ choose-no _ _ _ (le-ltb (length log) (jobsOf l) le);
-          log-is = B .bytes ∙ ap (λ (v : Verdict). begunLog v log) (h .is) ∙ choose-no _ _ _ (le-ltb (length log) (jobsOf l) le) })
-      (λ (lt : length log < jobsOf l). absurd (omega (arith, ap (λ (x : Begun). begunNumbers x .number) (answer ∙ choose-yes _ _ _ (lt-ltb (length log) (jobsOf l) lt)))))
-      (le-or-lt (jobsOf l) (length log))))
+    let answer = B .answer ∙ ap (λ (v : Verdict). begunOf v (length log)) (h .is) in
+    ⊎-elim
+    (λ (le : jobsOf l ≤ length log).
+    record {
+      keeps = h .keeps;
+      on-time = h .on-time;
+      room = le;
+      state-is = B .state ∙ ap (λ (v : Verdict). begunState l asked clock v (length log)) (h .is) ∙ choose-no _ _ _ (le-ltb (length log) (jobsOf l) le);
+      log-is = B .bytes ∙ ap (λ (v : Verdict). begunLog v log) (h .is) ∙ choose-no _ _ _ (le-ltb (length log) (jobsOf l) le);
+    })
+    (λ (lt : length log < jobsOf l). absurd (omega (arith, ap (λ (x : Begun). begunNumbers x .number) (answer ∙ choose-yes _ _ _ (lt-ltb (length log) (jobsOf l) lt)))))
+    (le-or-lt (jobsOf l) (length log))))
     (verdict-tells l supply)
   where
     -- a refused list is refused by the start
@@ -79,7 +78,7 @@ module _ (l : TaskList) (supply : ℕ) (K : KeepsBounds l supply) (m : Mode) (cl
   s = startState l (cycleOf l) m clock
 
   timing : (i : ℕ) → i < l .count → getD (s .tasks) i noTiming ≡ timingOf (taskAt (l .tasks) i)
-  unfolding startState
+  unfolding startState timings
   timing i li = overwrite-at (λ i. timingOf (taskAt (l .tasks) i)) (replicate 16 noTiming) noTiming (l .count) i li (omega (arith, K .few))
 
   start-period : (i : ℕ) → i < l .count → periodOf s i ≡ planOf l .period i
@@ -101,7 +100,8 @@ module _ (l : TaskList) (supply : ℕ) (K : KeepsBounds l supply) (m : Mode) (cl
     cycle-is = refl;
     period-is = start-period;
     runtime-is = start-runtime;
-    jobs-room = omega (arith, K .few) }
+    jobs-room = omega (arith, K .few);
+  }
 
   start-offset : (i : ℕ) → i ≤ l .count → offset s i ≡ jobSum (l .tasks) (cycleOf l) i
   unfolding offset jobSum planOf startState
@@ -126,7 +126,9 @@ module _ (l : TaskList) (supply : ℕ) (K : KeepsBounds l supply) (m : Mode) (cl
       runtime-from = omega (arith, start-runtime i li, K .fits i li .runtime-from);
       runtime-to = omega (arith, start-runtime i li, start-period i li, K .fits i li .runtime-to);
       used-to = omega (arith, ap (λ (j : Job). j .used) (start-job i));
-      used-below = λ _. omega (arith, ap (λ (j : Job). j .used) (start-job i), start-runtime i li, K .fits i li .runtime-from) } }
+      used-below = λ _. omega (arith, ap (λ (j : Job). j .used) (start-job i), start-runtime i li, K .fits i li .runtime-from);
+    };
+  }
 
   -- ---- its log
   module _ (log : List ℕ) (room : jobsOf l ≤ length log) where
@@ -166,10 +168,11 @@ module _ (l : TaskList) (supply : ℕ) (K : KeepsBounds l supply) (m : Mode) (cl
       position-is = start-position;
       jobs-are = λ i li. rw (start-job i, had-first (planOf l) d i) (fresh-has (need i (job (planOf l) i 0)) (planOf l .runtime i (job (planOf l) i 0)) (needs i (job (planOf l) i 0) li) (runtime-some i (job (planOf l) i 0) li));
       bytes-are = λ i k li lk.
-        start-byte i k li lk
-        ∙ sym (byte-none (planOf l) need d i k 0 (omega (arith, takes-some need needs i k li, nothing-before-release (planOf l) (plan-monotonic l supply K .sound) d i li k 0 (omega arith))));
+          start-byte i k li lk
+          ∙ sym (byte-none (planOf l) need d i k 0 (omega (arith, takes-some need needs i k li, nothing-before-release (planOf l) (plan-monotonic l supply K .sound) d i li k 0 (omega arith))));
       beyond = λ x lx. overwrite-kept (λ _. 0) log 0 (jobsOf l) x (omega (arith, start-jobs));
-      long = overwrite-length (λ _. 0) log (jobsOf l) }
+      long = overwrite-length (λ _. 0) log (jobsOf l);
+    }
 
     -- Log and jobs agree from the start.
     pub start-honest : Honest s cleared
@@ -178,16 +181,18 @@ module _ (l : TaskList) (supply : ℕ) (K : KeepsBounds l supply) (m : Mode) (cl
       is-sound = start-sound;
       jobs-room = omega (arith, K .few);
       tells = λ i k li lk.
-        let zero-byte : getD cleared (offset s i + k) 0 ≡ 0 = start-byte i k li (subst (λ (x : ℕ). k < cycleOf l / x) (start-period i li) lk) in
-        record {
-          to-come = λ _. zero-byte;
-          current-open = λ _ _. zero-byte;
-          current-ended = λ _ t _. true≢false (sym t ∙ ap (λ (j : Job). j .ended) (start-job i));
-          passed = λ h _. omega (arith, start-period i li, K .fits i li .period-from, mul-pos {m = suc k} {n = periodOf s i} (omega arith) (omega (arith, start-period i li, K .fits i li .period-from))) } }
+          let zero-byte : getD cleared (offset s i + k) 0 ≡ 0 = start-byte i k li (subst (λ (x : ℕ). k < cycleOf l / x) (start-period i li) lk) in
+          record {
+            to-come = λ _. zero-byte;
+            current-open = λ _ _. zero-byte;
+            current-ended = λ _ t _. true≢false (sym t ∙ ap (λ (j : Job). j .ended) (start-job i));
+            passed = λ h _. omega (arith, start-period i li, K .fits i li .period-from, mul-pos {m = suc k} {n = periodOf s i} (omega arith) (omega (arith, start-period i li, K .fits i li .period-from)));
+          };
+    }
 
 -- An accepted list starts, if the log has room for its jobs.
 pub accepted-starts : (l : TaskList) (supply : ℕ) (asked : Asked) (clock : ℕ) (log log′ : List ℕ) (r : Started)
-  → Begins l supply asked clock log log′ r → KeepsBounds l supply → numbers (verdictOf l supply) .number ≡ 0 → jobsOf l ≤ length log → begunNumbers (r .answer) .number ≡ 0
+    → Begins l supply asked clock log log′ r → KeepsBounds l supply → numbers (verdictOf l supply) .number ≡ 0 → jobsOf l ≤ length log → begunNumbers (r .answer) .number ≡ 0
 unfolding begunOf begunNumbers
 accepted-starts l supply asked clock log log′ r B K z room =
     ap (λ (x : Begun). begunNumbers x .number)

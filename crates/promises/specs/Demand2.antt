@@ -1,13 +1,13 @@
 -- Demand 2, about the definitions that the contracts of verdict and table building cite: a list that breaks no bound is accepted
 -- exactly if every task passes the test, and that is exactly if the slice rule gives every job of the cycle its run-time before
 -- its deadline; a refusal for lateness names the first task that misses and by how many slices.
-use mathlib.Core.Path.{_≡_, refl, sym, ap, ap₂, subst, _∙_}
-use mathlib.Core.Bool.{Bool, true, false, true≢false}
+use mathlib.Core.Path.{_≡_, refl, sym, ap, subst, _∙_}
+use mathlib.Core.Bool.{true, false, true≢false}
 use mathlib.Core.List.{List}
-use mathlib.Core.Logic.{_⊎_, inl, inr, ⊎-elim, _↔_}
-use Prim.Native.Nat.{ℕ, zero, suc, _+_, _-_, _*_, _/_, _≤_, _<_, _∣_}
+use mathlib.Core.Logic.{⊎-elim, _↔_}
+use Prim.Native.Nat.{ℕ, zero, suc, _+_, _-_, _*_, _/_, _≤_, _<_}
 use native.Mathlib.Omega.{arith}
-use native.Mathlib.Nat.{zero-mul, zero-add, sub-self, div-mul-cancel, suc-inj, mod-eq-of-lt, div-eq-of-lt}
+use native.Mathlib.Nat.{zero-mul, zero-add, sub-self, suc-inj, mod-eq-of-lt, div-eq-of-lt}
 use lib.Dec.{eqb, ltb, leb}
 use lib.IntN.{ℤ, pos, negsuc, subℕ}
 use lib.ListN.{length, getD}
@@ -17,24 +17,24 @@ use Rattle.basis.specs.Sum.{sum, sum-ext}
 use Rattle.plan.specs.Counting.{entries-in-cycle}
 use Rattle.basis.specs.Least.{least, least-law}
 use Rattle.basis.specs.Bytes.{overwrite, overwrite-length, overwrite-at, overwrite-kept}
-use Rattle.plan.specs.Plan.{Plan, Monotonic, release, deadline, job, age, keyIn, ranksBefore, gets, entry, given, table, first, HadBy, OnTime, OnTimeUpTo, Passes, IsFirst, NoneWants, FirstTask}
-use Rattle.plan.specs.Run.{had-after, job-at, age-at}
+use Rattle.plan.specs.Plan.{Plan, Monotonic, release, deadline, job, age, keyIn, ranksBefore, gets, given, table, HadBy, OnTime, OnTimeUpTo, IsFirst, NoneWants, FirstTask}
+use Rattle.plan.specs.Run.{had-after}
 use Rattle.plan.specs.Rank.{rank, rank-tells, first-law, not-before-key, not-before-place}
 use Rattle.plan.specs.ExactTest.{AllPass, test-exact-up-to, FirstFailing, late-has-first-failing, first-failing-late, first-failing-earliest}
 use Rattle.tasks.specs.declared.TaskList.{TaskList}
 use Rattle.tasks.specs.declared.Bounds.the-variants.{Kept, Broken}
-use Rattle.tasks.specs.List.{taskAt, planOf}
-use Rattle.tasks.specs.Bounds.{cycleOf, jobsOf, found, boundsOf}
-use Rattle.tasks.specs.Kept.{KeepsBounds, nothing-found, found-most, bounds-kept, bounds-broken, plan-monotonic, period-within-cycle, period-divides-cycle}
+use Rattle.tasks.specs.List.{planOf}
+use Rattle.tasks.specs.Bounds.{cycleOf, jobsOf}
+use Rattle.tasks.specs.Kept.{KeepsBounds, bounds-kept, plan-monotonic, period-within-cycle, period-divides-cycle}
 use Rattle.verdict.specs.declared.Verdict.{Verdict}
 use Rattle.verdict.specs.declared.Verdict.the-variants.{Accepted, Refused}
-use Rattle.verdict.specs.Lateness.{received, missing, missedAt, lateness}
+use Rattle.verdict.specs.Lateness.{received, missing, missedAt}
 use Rattle.verdict.specs.Margin.{margin, firstEnd, tighter, tightest}
-use Rattle.verdict.specs.Verdict.{judged, verdictFrom, verdictOf, Numbers, numbers}
+use Rattle.verdict.specs.Verdict.{verdictOf, Numbers, numbers}
 use Rattle.basis.specs.Signed.{zero-less}
 use Rattle.verdict.specs.Answers.{ByBounds, ForLateness, OnTimeAll, on-time-accepted, verdict-tells}
 use Rattle.verdict.specs.Table.{fitted, tabled, Built}
-use Rattle.verdict.specs.Deadlines.{nothing-late, EarliestMissed, late-tells, missed-lacks, missing-is, closes-deadline}
+use Rattle.verdict.specs.Deadlines.{EarliestMissed, missed-lacks, missing-is, closes-deadline}
 
 -- ---- accepted exactly if every task passes
 module _ (l : TaskList) (supply : ℕ) (K : KeepsBounds l supply) where
@@ -47,14 +47,15 @@ module _ (l : TaskList) (supply : ℕ) (K : KeepsBounds l supply) where
   -- A list that breaks no bound is accepted exactly if the slice rule gives every job of the cycle its run-time before its deadline,
   pub accepted-on-time : (numbers (verdictOf l supply) .number ≡ 0) ↔ OnTimeUpTo (planOf l) (planOf l .runtime) (cycleOf l)
   unfolding numbers
-  accepted-on-time =
-      (λ z.
+  accepted-on-time = (
+    λ z.
         ⊎-elim not-by-bounds
         (⊎-elim
         (λ (h : ForLateness l supply (verdictOf l supply)). absurd (omega (arith, ap (λ (v : Verdict). numbers v .number) (h .is))))
         (λ (h : OnTimeAll l supply (verdictOf l supply)). h .on-time))
         (verdict-tells l supply),
-      λ on. ap (λ (v : Verdict). numbers v .number) (on-time-accepted l supply K on .is))
+    λ on. ap (λ (v : Verdict). numbers v .number) (on-time-accepted l supply K on .is),
+  )
 
   within-cycle : (i : ℕ) → i < planOf l .count → planOf l .due i ≤ cycleOf l
   unfolding planOf
@@ -127,7 +128,7 @@ module _ (P : Plan) (M : Monotonic P) (n i short : ℕ) (E : EarliestMissed P n 
       ⊎-elim
       (λ (l : suc t ≤ P .due f). omega arith)
       (λ (l : P .due f < suc t).
-        absurd (omega (arith, first-failing-late P M f (F .1), E .on-time-before f 0 (F .1 .below) (omega (arith, zero-mul (P .period f))), ap (λ (x : ℕ). given P r f x (P .due f)) (zero-mul (P .period f)))))
+      absurd (omega (arith, first-failing-late P M f (F .1), E .on-time-before f 0 (F .1 .below) (omega (arith, zero-mul (P .period f))), ap (λ (x : ℕ). given P r f x (P .due f)) (zero-mul (P .period f)))))
       (le-or-lt (suc t) (P .due f))
 
   in-first : t < P .period f
@@ -145,13 +146,15 @@ module _ (P : Plan) (M : Monotonic P) (n i short : ℕ) (E : EarliestMissed P n 
   unfolding missing release
   f-missing =
       let here : suc (age P f t) ≡ P .due f = omega (arith, first-age, same-slice) in
-      omega (arith,
+      omega (
+        arith,
         choose-yes (eqb (suc (age P f t)) (P .due f)) (r f (job P f t) - received P t f) 0 (eq-eqb _ _ here),
         received-is f (F .1 .below) here,
         ap (r f) first-job,
         ap (λ (k : ℕ). given P r f (k * P .period f) (P .due f)) first-job,
         ap (λ (x : ℕ). given P r f x (P .due f)) (zero-mul (P .period f)),
-        first-failing-late P M f (F .1))
+        first-failing-late P M f (F .1),
+      )
 
   f-lacks : 0 < missing P t f
   f-lacks = omega (arith, f-missing, first-failing-late P M f (F .1))
@@ -163,8 +166,8 @@ module _ (P : Plan) (M : Monotonic P) (n i short : ℕ) (E : EarliestMissed P n 
       ⊎-elim
       (λ (h : NoneWants (missing P t) (P .count) (missedAt P t)). absurd (omega (arith, E .missed, h .idle)))
       (λ (h : FirstTask (keyIn P t) (missing P t) (P .count) (missedAt P t)).
-        let same : h .task ≡ i = suc-inj (sym (h .is) ∙ E .missed) in
-        ap (ranksBefore (keyIn P t) f) (sym same) ∙ h .none-before f (F .1 .below) f-lacks)
+      let same : h .task ≡ i = suc-inj (sym (h .is) ∙ E .missed) in
+      ap (ranksBefore (keyIn P t) f) (sym same) ∙ h .none-before f (F .1 .below) f-lacks)
       (first-law (keyIn P t) (missing P t) (P .count))
 
   key-is : (u j : ℕ) → j < P .count → keyIn P u j ≡ P .due j
@@ -177,9 +180,11 @@ module _ (P : Plan) (M : Monotonic P) (n i short : ℕ) (E : EarliestMissed P n 
       let lf = F .1 .below in
       let b : ranksBefore (keyIn P 0) i f ≡ false = first-failing-earliest P M f i (job P i t) (F .1) li job-late .1 in
       let x : P .due i ≡ P .due f = omega (arith, not-before-key (keyIn P t) f i not-after, not-before-key (keyIn P 0) i f b, key-is t i li, key-is t f lf, key-is 0 i li, key-is 0 f lf) in
-      omega (arith,
+      omega (
+        arith,
         not-before-place (keyIn P t) f i not-after (key-is t f lf ∙ sym x ∙ sym (key-is t i li)),
-        not-before-place (keyIn P 0) i f b (key-is 0 i li ∙ x ∙ sym (key-is 0 f lf)))
+        not-before-place (keyIn P 0) i f b (key-is 0 i li ∙ x ∙ sym (key-is 0 f lf)),
+      )
 
   pub first-late : (task : ℕ) (margin : ℤ) → task ≡ suc i → margin ≡ subℕ 0 short → FirstLate P task margin
   first-late task margin et em = record {
@@ -190,19 +195,20 @@ module _ (P : Plan) (M : Monotonic P) (n i short : ℕ) (E : EarliestMissed P n 
     none-before = λ j k lj late. first-failing-earliest P M f j k (F .1) lj late .1;
     lacking = first-failing-late P M f (F .1);
     margin-is = em ∙ short-is short (given P r f 0 (P .due f)) ∙ ap (subℕ (given P r f 0 (P .due f))) (omega (arith, E .lacks, ap (missing P t) is-first-failing, f-missing));
-    fails-first = F .1 }
+    fails-first = F .1;
+  }
 
 -- ---- the promise on lateness
 -- Refusal 7 names the first task that misses, and by how many slices. (That the margin is below zero there and nowhere else is
 -- `below-zero` of the verdict's Answers.)
 pub late-named : (l : TaskList) (supply : ℕ) → KeepsBounds l supply → numbers (verdictOf l supply) .number ≡ 7
-  → FirstLate (planOf l) (numbers (verdictOf l supply) .task) (numbers (verdictOf l supply) .signed)
+    → FirstLate (planOf l) (numbers (verdictOf l supply) .task) (numbers (verdictOf l supply) .signed)
 unfolding numbers
 late-named l supply K seven =
     ⊎-elim (not-by-bounds l supply K)
     (⊎-elim
     (λ (h : ForLateness l supply (verdictOf l supply)).
-      rw (h .is) (first-late (planOf l) (plan-monotonic l supply K) (cycleOf l) (h .place) (suc (h .short)) (h .earliest) (suc (h .place)) (negsuc (h .short)) refl (sym (zero-less (h .short)))))
+    rw (h .is) (first-late (planOf l) (plan-monotonic l supply K) (cycleOf l) (h .place) (suc (h .short)) (h .earliest) (suc (h .place)) (negsuc (h .short)) refl (sym (zero-less (h .short)))))
     (λ (h : OnTimeAll l supply (verdictOf l supply)). absurd (omega (arith, ap (λ (v : Verdict). numbers v .number) (h .is)))))
     (verdict-tells l supply)
 
@@ -218,7 +224,7 @@ module _ (P : Plan) where
       ⊎-elim
       (λ (l : margin P i ≤ margin P j). l)
       (λ (l : margin P j < margin P i).
-        absurd (true≢false (sym e ∙ rw (le-ltb (margin P i) (margin P j) (omega arith), ne-eqb (margin P i) (margin P j) (λ q. omega arith)))))
+      absurd (true≢false (sym e ∙ rw (le-ltb (margin P i) (margin P j) (omega arith), ne-eqb (margin P i) (margin P j) (λ q. omega arith)))))
       (le-or-lt (margin P i) (margin P j))
 
   tighter-equal : (i j : ℕ) → i < P .count → j < P .count → margin P i ≡ margin P j → tighter P i j ≡ ltb (τ i) (τ j)
@@ -239,16 +245,16 @@ module _ (P : Plan) where
   tighter-through i j k li lj lk ij kj =
       ⊎-elim
       (λ (l : margin P k ≤ margin P i).
-        ⊎-elim
-        (λ (q : margin P k ≡ margin P i).
-          ⊎-elim
-          (λ (q′ : margin P i ≡ margin P j).
-            tighter-equal k i lk li q
-            ∙ le-ltb (τ k) (τ i) (omega (arith, ltb-true (τ i) (τ j) (sym (tighter-equal i j li lj q′) ∙ ij), ltb-false (τ k) (τ j) (sym (tighter-equal k j lk lj (q ∙ q′)) ∙ kj))))
-          (λ (ne : margin P i ≡ margin P j → ⊥). absurd (true≢false (sym (tighter-less k j (omega (arith, tighter-tells i j li lj ij))) ∙ kj)))
-          (eq-or-ne (margin P i) (margin P j)))
-        (λ (ne : margin P k ≡ margin P i → ⊥). absurd (true≢false (sym (tighter-less k j (omega (arith, tighter-tells i j li lj ij))) ∙ kj)))
-        (eq-or-ne (margin P k) (margin P i)))
+      ⊎-elim
+      (λ (q : margin P k ≡ margin P i).
+      ⊎-elim
+      (λ (q′ : margin P i ≡ margin P j).
+      tighter-equal k i lk li q
+      ∙ le-ltb (τ k) (τ i) (omega (arith, ltb-true (τ i) (τ j) (sym (tighter-equal i j li lj q′) ∙ ij), ltb-false (τ k) (τ j) (sym (tighter-equal k j lk lj (q ∙ q′)) ∙ kj))))
+      (λ (ne : margin P i ≡ margin P j → ⊥). absurd (true≢false (sym (tighter-less k j (omega (arith, tighter-tells i j li lj ij))) ∙ kj)))
+      (eq-or-ne (margin P i) (margin P j)))
+      (λ (ne : margin P k ≡ margin P i → ⊥). absurd (true≢false (sym (tighter-less k j (omega (arith, tighter-tells i j li lj ij))) ∙ kj)))
+      (eq-or-ne (margin P k) (margin P i)))
       (λ (l : margin P i < margin P k). not-tighter-more k i l)
       (le-or-lt (margin P k) (margin P i))
 
@@ -266,19 +272,21 @@ module _ (P : Plan) where
   next-tightest n p l T =
       ⊎-elim
       (λ (t : tighter P n (tightest P n) ≡ true).
-        rw (ne-eqb n 0 (λ z. omega arith), t)
-        (record {
-          is-below = omega arith;
-          none-tighter = λ j lj.
+      rw (ne-eqb n 0 (λ z. omega arith), t)
+      (record {
+        is-below = omega arith;
+        none-tighter = λ j lj.
             ⊎-elim
             (λ (b : j < n). tighter-through n (tightest P n) j l (omega (arith, T .is-below)) (omega arith) t (T .none-tighter j b))
             (λ (e : j ≡ n). ap (λ (x : ℕ). tighter P x n) e ∙ not-tighter-self n l)
-            (below-suc j n lj) }))
+            (below-suc j n lj);
+      }))
       (λ (f : tighter P n (tightest P n) ≡ false).
-        rw (ne-eqb n 0 (λ z. omega arith), f)
-        (record {
-          is-below = omega (arith, T .is-below);
-          none-tighter = λ j lj. ⊎-elim (λ (b : j < n). T .none-tighter j b) (λ (e : j ≡ n). ap (λ (x : ℕ). tighter P x (tightest P n)) e ∙ f) (below-suc j n lj) }))
+      rw (ne-eqb n 0 (λ z. omega arith), f)
+      (record {
+        is-below = omega (arith, T .is-below);
+        none-tighter = λ j lj. ⊎-elim (λ (b : j < n). T .none-tighter j b) (λ (e : j ≡ n). ap (λ (x : ℕ). tighter P x (tightest P n)) e ∙ f) (below-suc j n lj);
+      }))
       (bool-cases (tighter P n (tightest P n)))
 
   only-tightest : 1 ≤ P .count → Tightest 1 (tightest P 1)
@@ -315,13 +323,14 @@ first-end P i on =
     record {
       within = L .within;
       has =
-        ⊎-elim
-        (λ (l : P .due i ≤ least (λ t. leb (P .runtime i 0) (given P (P .runtime) i 0 t)) (P .due i)).
+          ⊎-elim
+          (λ (l : P .due i ≤ least (λ t. leb (P .runtime i 0) (given P (P .runtime) i 0 t)) (P .due i)).
           let e : least (λ t. leb (P .runtime i 0) (given P (P .runtime) i 0 t)) (P .due i) ≡ P .due i = omega (arith, L .within) in
           omega (arith, ap (given P (P .runtime) i 0) e, ap (λ (x : ℕ). given P (P .runtime) i x (P .due i)) (zero-mul (P .period i))))
-        (λ (l : least (λ t. leb (P .runtime i 0) (given P (P .runtime) i 0 t)) (P .due i) < P .due i). leb-true _ _ (L .passes l))
-        (le-or-lt (P .due i) (least (λ t. leb (P .runtime i 0) (given P (P .runtime) i 0 t)) (P .due i)));
-      not-before = λ t lt. leb-false _ _ (L .none-before t lt) }
+          (λ (l : least (λ t. leb (P .runtime i 0) (given P (P .runtime) i 0 t)) (P .due i) < P .due i). leb-true _ _ (L .passes l))
+          (le-or-lt (P .due i) (least (λ t. leb (P .runtime i 0) (given P (P .runtime) i 0 t)) (P .due i)));
+      not-before = λ t lt. leb-false _ _ (L .none-before t lt);
+    }
 
 -- what none is tighter tells of margins and ranks
 module _ (P : Plan) (i j : ℕ) (f : tighter P j i ≡ false) where
@@ -345,7 +354,8 @@ module _ (l : TaskList) (supply : ℕ) (K : KeepsBounds l supply) where
         jobs-is = refl;
         margin-is = refl;
         smallest = λ j lj. no-smaller (planOf l) (tightest (planOf l) (l .count)) j (T .none-tighter j lj);
-        then-first = λ j lj q. no-better (planOf l) (tightest (planOf l) (l .count)) j (T .none-tighter j lj) q })
+        then-first = λ j lj q. no-better (planOf l) (tightest (planOf l) (l .count)) j (T .none-tighter j lj) q;
+      })
     where
       T : Tightest (planOf l) (l .count) (tightest (planOf l) (l .count))
       T = tightest-law (planOf l) (l .count) (K .some) (omega arith)
@@ -375,9 +385,9 @@ module _ (l : TaskList) (supply : ℕ) (K : KeepsBounds l supply) (old new : Lis
       let answer = B .answer ∙ ap (λ (x : Verdict). fitted x (length old)) e in
       ⊎-elim
       (λ (r : cycleOf l ≤ length old).
-        (r, B .bytes ∙ ap (λ (x : Verdict). tabled l x old) (answer ∙ choose-no _ _ _ (le-ltb (length old) (cycleOf l) r))))
+      (r, B .bytes ∙ ap (λ (x : Verdict). tabled l x old) (answer ∙ choose-no _ _ _ (le-ltb (length old) (cycleOf l) r))))
       (λ (r : length old < cycleOf l).
-        absurd (omega (arith, ap (λ (x : Verdict). numbers x .number) (answer ∙ choose-yes _ _ _ (lt-ltb (length old) (cycleOf l) r)))))
+      absurd (omega (arith, ap (λ (x : Verdict). numbers x .number) (answer ∙ choose-yes _ _ _ (lt-ltb (length old) (cycleOf l) r)))))
       (le-or-lt (cycleOf l) (length old))
 
   pub table-is : numbers v .number ≡ 0 → TableOf
@@ -388,7 +398,8 @@ module _ (l : TaskList) (supply : ℕ) (K : KeepsBounds l supply) (old new : Lis
         long = ap length (b .1) ∙ overwrite-length f old (cycleOf l);
         reaches = omega (arith, b .0, ap length (b .1), overwrite-length f old (cycleOf l));
         entries = λ t lt. ap (λ (x : List ℕ). getD x t 0) (b .1) ∙ overwrite-at f old 0 (cycleOf l) t lt (omega (arith, b .0));
-        beyond = λ t lt. ap (λ (x : List ℕ). getD x t 0) (b .1) ∙ overwrite-kept f old 0 (cycleOf l) t lt }
+        beyond = λ t lt. ap (λ (x : List ℕ). getD x t 0) (b .1) ∙ overwrite-kept f old 0 (cycleOf l) t lt;
+      }
 
   -- each task filling exactly run-time times cycle / period entries.
   pub fills : numbers v .number ≡ 0 → (i : ℕ) → i < l .count → sum (λ t. gets (getD new t 0) i) (cycleOf l) ≡ planOf l .runtime i 0 * (cycleOf l / planOf l .period i)

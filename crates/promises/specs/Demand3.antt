@@ -2,36 +2,33 @@
 -- full run of either kind each job that needs no more than it declared is logged done, each other one over, none late, none
 -- without a result. Filling freed slices ends no job later than the run by the table with the same needs; and no job of a
 -- filling run ends later when needs are lowered, whichever jobs they belong to.
-use mathlib.Core.Path.{_≡_, refl, sym, ap, ap₂, subst, _∙_}
+use mathlib.Core.Path.{_≡_, refl, sym, ap, ap₂, _∙_}
 use mathlib.Core.List.{List}
-use mathlib.Core.Bool.{Bool, true, false, not, true≢false}
+use mathlib.Core.Bool.{Bool, true, not, true≢false}
 use mathlib.Core.Logic.{⊎-elim}
-use Prim.Native.Nat.{ℕ, zero, suc, _+_, _-_, _*_, _/_, _≤_, _<_, min}
+use Prim.Native.Nat.{ℕ, _+_, _/_, _≤_, _<_}
 use native.Mathlib.Omega.{arith}
 use native.Mathlib.Nat.{div-mul-le-self, mul-le-mul-right}
 use lib.Dec.{eqb, leb}
 use lib.ListN.{length, getD}
-use borrow.Author.Tests.{eq-eqb, ne-eqb, le-leb, lt-leb, leb-true, leb-false, eqb-true, eqb-false}
-use Rattle.basis.specs.Choose.{choose, choose-yes, choose-no, bool-cases, le-or-lt, eq-or-ne}
+use borrow.Author.Tests.{eq-eqb, ne-eqb}
+use Rattle.basis.specs.Choose.{choose, le-or-lt}
 use Rattle.basis.specs.Sum.{sum-ext}
-use Rattle.basis.specs.Least.{least, Least, least-law}
-use Rattle.plan.specs.Plan.{Plan, Monotonic, Demand, release, deadline, given, takes, HadBy, EndsBy, EndsByTable, OnTime, OnTimeUpTo}
+use Rattle.basis.specs.Least.{least, least-law}
+use Rattle.plan.specs.Plan.{Monotonic, Demand, release, deadline, takes, HadBy, OnTime, OnTimeUpTo}
 use Rattle.plan.specs.Progress.{elapsed, hadUpTo, settled}
-use Rattle.plan.specs.Domination.{filling-on-time, filling-ends-no-later, lower-needs-delay-none}
+use Rattle.plan.specs.Domination.{filling-ends-no-later, lower-needs-delay-none}
 use Rattle.tasks.specs.declared.TaskList.{TaskList}
 use Rattle.tasks.specs.List.{taskAt, planOf}
 use Rattle.tasks.specs.Bounds.{cycleOf, jobSum, jobsOf}
-use Rattle.tasks.specs.Kept.{KeepsBounds, plan-monotonic}
-use Rattle.verdict.specs.Verdict.{verdictOf, numbers}
+use Rattle.tasks.specs.Kept.{plan-monotonic}
 use Rattle.start.specs.declared.Asked.{Asked}
-use Rattle.run.specs.declared.Mode.{Mode}
 use Rattle.run.specs.declared.Mode.the-variants.{Table, Filling}
 use Rattle.run.specs.declared.Closed.the-variants as closed
-use Rattle.run.specs.declared.State.{State}
 use Rattle.run.specs.State.{offset, jobCount}
-use Rattle.start.specs.Start.{modeOf, startState, begunNumbers}
-use Rattle.promises.specs.Drive.{Own, Steps, Drive, placeOf, endIn}
-use Rattle.promises.specs.Reached.{Carries, Reached, resultByte, result-some, byteUpTo, byte-result, byte-none}
+use Rattle.start.specs.Start.{modeOf, begunNumbers}
+use Rattle.promises.specs.Drive.{Own, Drive, placeOf, endIn}
+use Rattle.promises.specs.Reached.{Reached, resultByte, result-some, byteUpTo, byte-result, byte-none}
 use Rattle.promises.specs.Driven.{demandOf, run-enough, run-on-time, reaches, none-refused}
 use Rattle.promises.specs.Begun.{Accepted, start-accepted, start-reached}
 
@@ -85,13 +82,16 @@ module _ (l : TaskList) (supply : ℕ) (asked : Asked) (clock : ℕ) (need : Dem
   has-ended : (i k : ℕ) → i < l .count → k < cycleOf l / planOf l .period i → takes (planOf l) need i k ≤ hadUpTo (planOf l) d i k (cycleOf l)
   unfolding planOf OnTimeUpTo OnTime HadBy
   has-ended i k li lk =
-      omega (arith,
+      omega (
+        arith,
         settled (planOf l) (M .sound) d i li k (cycleOf l) (deadline-within i k li lk),
         on-time-run i k li (deadline-within i k li lk),
-        enough-run i k li)
+        enough-run i k li,
+      )
     where
       on-time-run : OnTimeUpTo (planOf l) (demandOf (modeOf asked) (planOf l) need) (cycleOf l)
       on-time-run = run-on-time (planOf l) M (cycleOf l) need (A .on-time) (modeOf asked)
+
       enough-run : (i k : ℕ) → i < l .count → takes (planOf l) need i k ≤ demandOf (modeOf asked) (planOf l) need i k
       enough-run i k li = run-enough (planOf l) need (modeOf asked) i k
 
@@ -117,7 +117,7 @@ module _ (l : TaskList) (supply : ℕ) (asked : Asked) (clock : ℕ) (need : Dem
       ⊎-elim
       (λ (h : takes (planOf l) need i k ≤ hadUpTo (planOf l) d i k p). h)
       (λ (h : hadUpTo (planOf l) d i k p < takes (planOf l) need i k).
-        absurd (true≢false (sym t ∙ ap not (eq-eqb _ 0 (byte-at p lp i k li lk ∙ byte-none (planOf l) need d i k p h)))))
+      absurd (true≢false (sym t ∙ ap not (eq-eqb _ 0 (byte-at p lp i k li lk ∙ byte-none (planOf l) need d i k p h)))))
       (le-or-lt (takes (planOf l) need i k) (hadUpTo (planOf l) d i k p))
 
   has-logged : (p : ℕ) → p ≤ cycleOf l → (i k : ℕ) → i < l .count → k < cycleOf l / planOf l .period i → takes (planOf l) need i k ≤ hadUpTo (planOf l) d i k p → not (eqb (getD (D .logs p) (placeOf l i k) 0) 0) ≡ true
@@ -144,12 +144,12 @@ module _ (l : TaskList) (supply supply′ : ℕ) (asked asked′ : Asked) (clock
   no-later : ((i k p : ℕ) → i < l .count → k < cycleOf l / planOf l .period i → p ≤ cycleOf l
       → takes (planOf l) need i k ≤ hadUpTo (planOf l) (demandOf (modeOf asked) (planOf l) need) i k p
       → takes (planOf l) need′ i k ≤ hadUpTo (planOf l) (demandOf (modeOf asked′) (planOf l) need′) i k p)
-    → (i k : ℕ) → i < l .count → k < cycleOf l / planOf l .period i → endIn l (D′ .logs) i k ≤ endIn l (D .logs) i k
+      → (i k : ℕ) → i < l .count → k < cycleOf l / planOf l .period i → endIn l (D′ .logs) i k ≤ endIn l (D .logs) i k
   unfolding endIn
   no-later h i k li lk =
       sooner _ _ (cycleOf l) (λ p lp t.
-        has-logged l supply′ asked′ clock′ need′ needs′ tab′ log′ own′ D′ ok′ p lp i k li lk
-        (h i k p li lk lp (logged-has l supply asked clock need needs tab log own D ok p lp i k li lk t)))
+      has-logged l supply′ asked′ clock′ need′ needs′ tab′ log′ own′ D′ ok′ p lp i k li lk
+      (h i k p li lk lp (logged-has l supply asked clock need needs tab log own D ok p lp i k li lk t)))
 
   within-window : (i k p : ℕ) → i < l .count → k < cycleOf l / planOf l .period i → p ≤ cycleOf l → release (planOf l) i k + elapsed (planOf l) i k p ≤ cycleOf l
   unfolding elapsed release planOf
@@ -167,10 +167,10 @@ module _ (l : TaskList) (supply supply′ : ℕ) (asked asked′ : Asked) (clock
   pub filling-no-later : modeOf asked ≡ Table → modeOf asked′ ≡ Filling → need′ ≡ need → (i k : ℕ) → i < l .count → k < cycleOf l / planOf l .period i → endIn l (D′ .logs) i k ≤ endIn l (D .logs) i k
   unfolding demandOf hadUpTo HadBy planOf
   filling-no-later et ef en = no-later (λ i k p li lk lp h.
-    rw (ef, en) (filling-ends-no-later (planOf l) (plan-monotonic l supply (begun-as .keeps) .sound) (cycleOf l) (begun-as .on-time) need i k (elapsed (planOf l) i k p) li (within-due i k p) (within-window i k p li lk lp) (rw et at h)))
+      rw (ef, en) (filling-ends-no-later (planOf l) (plan-monotonic l supply (begun-as .keeps) .sound) (cycleOf l) (begun-as .on-time) need i k (elapsed (planOf l) i k p) li (within-due i k p) (within-window i k p li lk lp) (rw et at h)))
 
   -- No job of a filling run ends later when needs are lowered, whichever jobs they belong to.
   pub lower-no-later : modeOf asked ≡ Filling → modeOf asked′ ≡ Filling → ((i k : ℕ) → i < l .count → need′ i k ≤ need i k) → (i k : ℕ) → i < l .count → k < cycleOf l / planOf l .period i → endIn l (D′ .logs) i k ≤ endIn l (D .logs) i k
   unfolding demandOf hadUpTo HadBy planOf
   lower-no-later e e′ less = no-later (λ i k p li lk lp h.
-    rw e′ (lower-needs-delay-none (planOf l) (plan-monotonic l supply (begun-as .keeps) .sound) (cycleOf l) (begun-as .on-time) need need′ less i k (elapsed (planOf l) i k p) li (within-due i k p) (within-window i k p li lk lp) (rw e at h)))
+      rw e′ (lower-needs-delay-none (planOf l) (plan-monotonic l supply (begun-as .keeps) .sound) (cycleOf l) (begun-as .on-time) need need′ less i k (elapsed (planOf l) i k p) li (within-due i k p) (within-window i k p li lk lp) (rw e at h)))

@@ -1,17 +1,17 @@
 -- Every step of a drive is accepted, and leads from one slice's state and log to the next's; so through the whole cycle.
-use mathlib.Core.Path.{_≡_, refl, sym, ap, ap₂, subst, _∙_}
+use mathlib.Core.Path.{_≡_, refl, sym, ap, subst, _∙_}
 use mathlib.Core.List.{List}
 use mathlib.Core.Bool.{Bool, true, false}
 use mathlib.Core.Logic.{⊎-elim}
-use Prim.Native.Nat.{ℕ, zero, suc, _+_, _-_, _/_, _≤_, _<_, min}
+use Prim.Native.Nat.{ℕ, zero, suc, _+_, _/_, _≤_, _<_}
 use native.Mathlib.Omega.{arith}
-use lib.Dec.{eqb, leb}
-use borrow.Author.Tests.{eq-eqb, ne-eqb, le-leb, lt-leb, leb-true, leb-false}
-use lib.ListN.{length, getD}
-use Rattle.basis.specs.Choose.{choose, choose-yes, choose-no, bool-cases, le-or-lt, eq-or-ne}
-use Rattle.plan.specs.Plan.{Plan, Monotonic, Demand, job, age, keyIn, pick, had, entry, takes, table, first, OnTimeUpTo}
+use lib.Dec.{eqb}
+use borrow.Author.Tests.{le-leb, lt-leb}
+use lib.ListN.{getD}
+use Rattle.basis.specs.Choose.{choose, choose-yes, choose-no, le-or-lt}
+use Rattle.plan.specs.Plan.{Plan, Monotonic, Demand, job, keyIn, pick, had, entry, takes, table, first, OnTimeUpTo}
 use Rattle.plan.specs.Rank.{first-same}
-use Rattle.plan.specs.Run.{age-below, lacks, lacks-open, lacks-most, had-room, entry-law}
+use Rattle.plan.specs.Run.{age-below, lacks, lacks-open, lacks-most, had-room}
 use Rattle.plan.specs.Counting.{entry-within}
 use Rattle.run.specs.declared.Mode.{Mode}
 use Rattle.run.specs.declared.Mode.the-variants.{Table, Filling}
@@ -19,12 +19,12 @@ use Rattle.run.specs.declared.State.{State}
 use Rattle.run.specs.declared.Next.{Next}
 use Rattle.run.specs.declared.Closed.the-variants.{Accepted}
 use Rattle.plan.specs.Domination.{filling-on-time}
-use Rattle.run.specs.State.{periodOf, jobOf, jobCount}
+use Rattle.run.specs.State.{periodOf, jobOf}
 use Rattle.run.specs.Who.{unlessEnded, firstOpen, runningBy, running}
-use Rattle.run.specs.Step.{nextClock, stateAfter, logAfter, Stepped}
-use Rattle.run.specs.Accepted.{Readable, WhoAccepted, StepAccepted, step-answers}
+use Rattle.run.specs.Step.{nextClock, stateAfter}
+use Rattle.run.specs.Accepted.{StepAccepted, step-answers}
 use Rattle.promises.specs.Drive.{reportOf, Own, Steps}
-use Rattle.promises.specs.Reached.{Reached, HasHad, reached-next, unless-open}
+use Rattle.promises.specs.Reached.{Reached, reached-next}
 
 -- ---- who runs
 -- The run that the mode follows: the table's, or the filling one's.
@@ -115,11 +115,14 @@ module _ (P : Plan) (cycle : ℕ) (need d : Demand) (m : Mode) (start : List ℕ
       not-over = omega (arith, R .position-is, R .carries .cycle-is);
       readable = λ _. record {
         length-from = omega (arith, own .reaches, R .carries .cycle-is);
-        entry-to = omega (arith, ap (λ (x : ℕ). getD tab x 0) (R .position-is), own .entries p lp, entry-within P (P .runtime) p, R .carries .count-is) } };
+        entry-to = omega (arith, ap (λ (x : ℕ). getD tab x 0) (R .position-is), own .entries p lp, entry-within P (P .runtime) p, R .carries .count-is);
+      };
+    };
     log-from = omega (arith, R .room, R .long);
     clock-next = refl;
     report-to = report-most need s (running s tab);
-    finished-by = report-runs need s (running s tab) }
+    finished-by = report-runs need s (running s tab);
+  }
 
 -- ---- the whole drive
 -- The run that a mode follows lets every job have what it takes, and is on time where the plan is.
@@ -143,14 +146,15 @@ module _ (P : Plan) (M : Monotonic P) (whole : (i : ℕ) → i < P .count → P 
 
   -- a step of the drive is accepted and leads on
   one-step : (m : Mode) (p : ℕ) → p < cycle → Reached P cycle need (demandOf m P need) m start p (s p) (g p)
-    → (r p .answer ≡ Accepted) × Reached P cycle need (demandOf m P need) m start (suc p) (s (suc p)) (g (suc p))
+      → (r p .answer ≡ Accepted) × Reached P cycle need (demandOf m P need) m start (suc p) (s (suc p)) (g (suc p))
   one-step m p lp R =
       let A = drive-accepted P cycle need (demandOf m P need) m start p lp (s p) (g p) R tab own in
-      let a = step-answers (s p) tab (nextClock (s p .clock)) (reportOf need (s p) (running (s p) tab)) (g p) (g (suc p)) (r p) A (S .stepped p lp) in
-      (a .0,
-      subst (λ (x : State). Reached P cycle need (demandOf m P need) m start (suc p) x (g (suc p))) (sym (S .handed p lp ∙ a .1))
-      (subst (λ (x : List ℕ). Reached P cycle need (demandOf m P need) m start (suc p) (stateAfter (s p) (running (s p) tab) (nextClock (s p .clock)) (reportOf need (s p) (running (s p) tab))) x) (sym (a .2))
-      (reached-next P M whole cycle need (demandOf m P need) needs (λ i k li. run-enough P need m i k) (run-on-time P M cycle need on m) m start p lp (s p) (g p) R tab (runs-as m p lp R) A)))
+      let a = step-answers (s p) tab (nextClock (s p .clock)) (reportOf need (s p) (running (s p) tab)) (g p) (g (suc p)) (r p) A (S .stepped p lp) in (
+        a .0,
+        subst (λ (x : State). Reached P cycle need (demandOf m P need) m start (suc p) x (g (suc p))) (sym (S .handed p lp ∙ a .1))
+            (subst (λ (x : List ℕ). Reached P cycle need (demandOf m P need) m start (suc p) (stateAfter (s p) (running (s p) tab) (nextClock (s p .clock)) (reportOf need (s p) (running (s p) tab))) x) (sym (a .2))
+            (reached-next P M whole cycle need (demandOf m P need) needs (λ i k li. run-enough P need m i k) (run-on-time P M cycle need on m) m start p lp (s p) (g p) R tab (runs-as m p lp R) A)),
+      )
 
   -- From the start on the drive reaches every slice of the cycle,
   pub reaches : (m : Mode) → Reached P cycle need (demandOf m P need) m start 0 (s 0) (g 0) → (p : ℕ) → p ≤ cycle → Reached P cycle need (demandOf m P need) m start p (s p) (g p)

@@ -3,24 +3,24 @@
 -- written it is not written again before the next start. This is the answer to the empty chamber.
 use mathlib.Core.Path.{_≡_, refl, sym, ap, ap₂, subst, _∙_}
 use mathlib.Core.List.{List}
-use mathlib.Core.Bool.{Bool, true, false, true≢false, _||_, _&&_}
+use mathlib.Core.Bool.{Bool, true, false, true≢false, _&&_}
 use mathlib.Core.Logic.{⊎-elim}
 use Prim.Native.Nat.{ℕ, zero, suc, _+_, _*_, _/_, _%_, _≤_, _<_}
 use native.Mathlib.Omega.{arith}
 use native.Mathlib.Nat.{div-add-mod', mod-lt, mul-le-mul-right}
 use lib.Dec.{eqb}
-use borrow.Author.Tests.{eq-eqb, ne-eqb, eqb-true, eqb-false}
+use borrow.Author.Tests.{eq-eqb, ne-eqb, eqb-true}
 use lib.ListN.{length, getD}
-use Rattle.basis.specs.Choose.{choose, bool-cases, le-or-lt, eq-or-ne}
+use Rattle.basis.specs.Choose.{choose, both-true, bool-cases, le-or-lt, eq-or-ne}
 use Rattle.basis.specs.Slices.{div-same, div-next, mod-same, mod-next}
 use Rattle.run.specs.declared.Job.{Job}
 use Rattle.run.specs.declared.State.{State}
 use Rattle.run.specs.declared.Next.{Next}
 use Rattle.run.specs.declared.Closed.the-variants.{Accepted, Refused}
-use Rattle.run.specs.State.{fresh, periodOf, runtimeOf, jobOf, offset, jobCount, place, lastSlice}
+use Rattle.run.specs.State.{fresh, periodOf, jobOf, offset, place, lastSlice}
 use Rattle.run.specs.Who.{running}
-use Rattle.run.specs.Step.{nextClock, stepRefusal, afterSlice, jobAfter, stateAfter, logAfter, answerOf, nextState, nextLog, Stepped}
-use Rattle.run.specs.Sound.{SoundState, and-both}
+use Rattle.run.specs.Step.{stepRefusal, afterSlice, jobAfter, stateAfter, logAfter, answerOf, nextState, nextLog, Stepped}
+use Rattle.run.specs.Sound.{SoundState}
 use Rattle.run.specs.Places.{job-in-cycle}
 use Rattle.run.specs.Accepted.{StepAccepted, step-accepted, step-answers, who-runs}
 use Rattle.run.specs.StateAfter.{slice-here, slice-elsewhere, job-anew, job-goes-on, HandedOn, handed-on, job-after, state-after-sound}
@@ -90,15 +90,15 @@ module _ (s : State) (tab : List ℕ) (clock report : ℕ) (g : List ℕ) (A : S
     ended-written t z =
         ⊎-elim
         (λ (e : ran ≡ suc i).
-          ⊎-elim
-          (λ (one : report ≡ 1). omega (arith, log-done s tab clock report g A i li e one))
-          (λ (not-one : report ≡ 1 → ⊥).
-            let none : report ≡ 0 = omega (arith, A .report-to) in
-            omega (arith, log-over s tab clock report g A i li e none (eqb-true _ _ (sym (rw (ne-eqb report 1 not-one) at (ap (λ (j : Job). j .ended) (slice-here s ran report i e))) ∙ t))))
-          (eq-or-ne report 1))
+        ⊎-elim
+        (λ (one : report ≡ 1). omega (arith, log-done s tab clock report g A i li e one))
+        (λ (not-one : report ≡ 1 → ⊥).
+        let none : report ≡ 0 = omega (arith, A .report-to) in
+        omega (arith, log-over s tab clock report g A i li e none (eqb-true _ _ (sym (rw (ne-eqb report 1 not-one) at (ap (λ (j : Job). j .ended) (slice-here s ran report i e))) ∙ t))))
+        (eq-or-ne report 1))
         (λ (ne : ran ≡ suc i → ⊥).
-          let was : jobOf s i .ended ≡ true = sym (ap (λ (j : Job). j .ended) (slice-elsewhere s ran report i ne)) ∙ t in
-          H .tells i k li k-in .current-ended refl was (sym here-before ∙ sym (log-ended s tab clock report g A i li was) ∙ z))
+        let was : jobOf s i .ended ≡ true = sym (ap (λ (j : Job). j .ended) (slice-elsewhere s ran report i ne)) ∙ t in
+        H .tells i k li k-in .current-ended refl was (sym here-before ∙ sym (log-ended s tab clock report g A i li was) ∙ z))
         (eq-or-ne ran (suc i))
 
     -- and 0 while it has not, until its deadline
@@ -163,7 +163,8 @@ module _ (s : State) (tab : List ℕ) (clock report : ℕ) (g : List ℕ) (A : S
       to-come = λ l. absurd (omega (arith, floor, kept .position-next, ap (λ (x : ℕ). k * x) (kept .period-kept i)));
       current-open = λ e f. two-ways (λ on. sym here-after ∙ open-unwritten (sym (same-part on) ∙ f) (not-last on)) (λ end. absurd (omega (arith, next-job end)));
       current-ended = λ e t z. two-ways (λ on. ended-written (sym (same-part on) ∙ t) (here-after ∙ z)) (λ end. omega (arith, next-job end));
-      passed = λ l z. two-ways (λ on. omega (arith, floor, kept .position-next, ap (λ (x : ℕ). suc k * x) (kept .period-kept i))) (λ end. last-written (is-last end) (here-after ∙ z)) }
+      passed = λ l z. two-ways (λ on. omega (arith, floor, kept .position-next, ap (λ (x : ℕ). suc k * x) (kept .period-kept i))) (λ end. last-written (is-last end) (here-after ∙ z));
+    }
 
     -- no other job's byte is touched
     untouched : (m : ℕ) → m < s .cycle / T → (m ≡ k → ⊥) → byteOf after log i m ≡ byteOf s g i m
@@ -175,17 +176,19 @@ module _ (s : State) (tab : List ℕ) (clock report : ℕ) (g : List ℕ) (A : S
       to-come = λ l. untouched m lm ne ∙ before .to-come (omega (arith, kept .position-next, ap (λ (x : ℕ). m * x) (kept .period-kept i)));
       current-open = λ e f. untouched m lm ne ∙ two-ways (λ on. absurd (ne (sym e ∙ same-job on))) (λ end. before .to-come (omega (arith, floor, ap (λ (x : ℕ). x * T) (sym e ∙ next-job end))));
       current-ended = λ e t z. two-ways (λ on. ne (sym e ∙ same-job on)) (λ end. true≢false (sym t ∙ anew end));
-      passed = λ l z. before .passed (earlier (omega (arith, kept .position-next, ap (λ (x : ℕ). suc m * x) (kept .period-kept i)))) (sym (untouched m lm ne) ∙ z) }
+      passed = λ l z. before .passed (earlier (omega (arith, kept .position-next, ap (λ (x : ℕ). suc m * x) (kept .period-kept i)))) (sym (untouched m lm ne) ∙ z);
+    }
       where
         before : Tells s g i m
         before = H .tells i m li lm
+
         -- another job whose deadline has passed by the slice's end had passed it before
         earlier : suc m * T ≤ suc (s .position) → suc m * T ≤ s .position
         earlier l =
             ⊎-elim
             (λ (lt : k ≤ m).
-              let later : suc k ≤ m = omega arith in
-              absurd (omega (arith, floor, below, mul-le-mul-right T later, pos)))
+            let later : suc k ≤ m = omega arith in
+            absurd (omega (arith, floor, below, mul-le-mul-right T later, pos)))
             (λ (lt : m < k). omega (arith, floor, mul-le-mul-right T lt))
             (le-or-lt k m)
 
@@ -194,23 +197,24 @@ module _ (s : State) (tab : List ℕ) (clock report : ℕ) (g : List ℕ) (A : S
     is-sound = state-after-sound s tab clock report g A;
     jobs-room = omega (arith, kept .count-kept, kept .jobs-length, H .jobs-room);
     tells = λ i m li lm.
-      let li-before : i < s .count = omega (arith, kept .count-kept) in
-      let lm-before : m < s .cycle / periodOf s i = subst (λ (x : ℕ). m < x) (ap₂ _/_ (kept .cycle-kept) (kept .period-kept i)) lm in
-      ⊎-elim
-      (λ (e : m ≡ s .position / periodOf s i). subst (Tells after log i) (sym e) (current-tells i li-before))
-      (λ (ne : m ≡ s .position / periodOf s i → ⊥). other-tells i li-before m lm-before ne)
-      (eq-or-ne m (s .position / periodOf s i)) }
+        let li-before : i < s .count = omega (arith, kept .count-kept) in
+        let lm-before : m < s .cycle / periodOf s i = subst (λ (x : ℕ). m < x) (ap₂ _/_ (kept .cycle-kept) (kept .period-kept i)) lm in
+        ⊎-elim
+        (λ (e : m ≡ s .position / periodOf s i). subst (Tells after log i) (sym e) (current-tells i li-before))
+        (λ (ne : m ≡ s .position / periodOf s i → ⊥). other-tells i li-before m lm-before ne)
+        (eq-or-ne m (s .position / periodOf s i));
+  }
 
   -- A byte once written stays.
   written-stays : (i m : ℕ) → i < s .count → m < s .cycle / periodOf s i → (byteOf s g i m ≡ 0 → ⊥) → byteOf after log i m ≡ byteOf s g i m
   written-stays i m li lm nz =
       ⊎-elim
       (λ (e : m ≡ s .position / periodOf s i).
-        subst (λ (x : ℕ). byteOf after log i x ≡ byteOf s g i x) (sym e)
-        (⊎-elim
-        (λ (t : jobOf s i .ended ≡ true). sym (here-after i li) ∙ log-ended s tab clock report g A i li t ∙ here-before i li)
-        (λ (f : jobOf s i .ended ≡ false). absurd (nz (H .tells i m li lm .current-open (sym e) f)))
-        (bool-cases (jobOf s i .ended))))
+      subst (λ (x : ℕ). byteOf after log i x ≡ byteOf s g i x) (sym e)
+      (⊎-elim
+      (λ (t : jobOf s i .ended ≡ true). sym (here-after i li) ∙ log-ended s tab clock report g A i li t ∙ here-before i li)
+      (λ (f : jobOf s i .ended ≡ false). absurd (nz (H .tells i m li lm .current-open (sym e) f)))
+      (bool-cases (jobOf s i .ended))))
       (λ (ne : m ≡ s .position / periodOf s i → ⊥). untouched i li m lm ne)
       (eq-or-ne m (s .position / periodOf s i))
 
@@ -228,21 +232,21 @@ module _ (s : State) (tab : List ℕ) (clock report : ℕ) (g : List ℕ) (A : S
 
   -- A byte that becomes 1 is that of the job that ran and reported finished.
   pass-brought : (i m : ℕ) → i < s .count → m < s .cycle / periodOf s i → byteOf s g i m ≡ 0 → byteOf after log i m ≡ 1
-    → (running s tab ≡ suc i) × (s .position / periodOf s i ≡ m) × (report ≡ 1)
+      → (running s tab ≡ suc i) × (s .position / periodOf s i ≡ m) × (report ≡ 1)
   pass-brought i m li lm z one =
       ⊎-elim
       (λ (e : m ≡ s .position / periodOf s i).
-        let old : getD g (place s i) 0 ≡ 0 = here-before i li ∙ ap (byteOf s g i) (sym e) ∙ z in
-        let new : byteAfter s ran report i (getD g (place s i) 0) ≡ 1 = sym (log-byte s tab clock report g A i li) ∙ here-after i li ∙ ap (byteOf after log i) (sym e) ∙ one in
-        let both = and-both (eqb ran (suc i)) (eqb report 1) (pass-test i (getD g (place s i) 0) old new) in
-        (eqb-true ran (suc i) (both .0), sym e, eqb-true report 1 (both .1)))
+      let old : getD g (place s i) 0 ≡ 0 = here-before i li ∙ ap (byteOf s g i) (sym e) ∙ z in
+      let new : byteAfter s ran report i (getD g (place s i) 0) ≡ 1 = sym (log-byte s tab clock report g A i li) ∙ here-after i li ∙ ap (byteOf after log i) (sym e) ∙ one in
+      let both = both-true (eqb ran (suc i)) (eqb report 1) .0 (pass-test i (getD g (place s i) 0) old new) in
+      (eqb-true ran (suc i) (both .0), sym e, eqb-true report 1 (both .1)))
       (λ (ne : m ≡ s .position / periodOf s i → ⊥). absurd (omega (arith, untouched i li m lm ne)))
       (eq-or-ne m (s .position / periodOf s i))
 
 -- ---- any calls
 -- A refused step gives back the state that it got and writes nothing.
 step-refused : (s : State) (tab : List ℕ) (clock report : ℕ) (g g′ : List ℕ) (r : Next) (n : ℕ) → stepRefusal s tab clock report g ≡ suc n → Stepped s tab clock report g g′ r
-  → (r .answer ≡ Refused (suc n)) × (r .state ≡ s) × (g′ ≡ g)
+    → (r .answer ≡ Refused (suc n)) × (r .state ≡ s) × (g′ ≡ g)
 unfolding answerOf nextState nextLog
 step-refused s tab clock report g g′ r n e S = (rw e at (S .answer), rw e at (S .state), rw e at (S .bytes))
 
@@ -251,7 +255,7 @@ module _ (s : ℕ → State) (g : ℕ → List ℕ) (tab : ℕ → List ℕ) (cl
   pub data Made (n : ℕ) : Type 0 where
     same : s (suc n) ≡ s n → g (suc n) ≡ g n → Made n
     moved : StepAccepted (s n) (tab n) (clock n) (report n) (g n) → r n .answer ≡ Accepted
-      → s (suc n) ≡ stateAfter (s n) (running (s n) (tab n)) (clock n) (report n) → g (suc n) ≡ logAfter (s n) (running (s n) (tab n)) (report n) (g n) → Made n
+        → s (suc n) ≡ stateAfter (s n) (running (s n) (tab n)) (clock n) (report n) → g (suc n) ≡ logAfter (s n) (running (s n) (tab n)) (report n) (g n) → Made n
 
   made : (n : ℕ) → Made n
   made n = go (stepRefusal (s n) (tab n) (clock n) (report n) (g n)) refl
@@ -288,7 +292,8 @@ module _ (s : ℕ → State) (g : ℕ → List ℕ) (tab : ℕ → List ℕ) (cl
         record {
           count-alike = ap (λ (x : State). x .count) es ∙ kept .count-kept;
           cycle-alike = ap (λ (x : State). x .cycle) es ∙ kept .cycle-kept;
-          period-alike = λ i. ap (λ (x : State). periodOf x i) es ∙ kept .period-kept i }
+          period-alike = λ i. ap (λ (x : State). periodOf x i) es ∙ kept .period-kept i;
+        }
 
     alike : (n : ℕ) → Alike n
     alike n = alike-by n (made n)
@@ -328,8 +333,8 @@ module _ (s : ℕ → State) (g : ℕ → List ℕ) (tab : ℕ → List ℕ) (cl
     earned-by n i k li lk so-far one (moved A a es eg) =
         ⊎-elim
         (λ (z : byteOf (s n) (g n) i k ≡ 0).
-          let b = pass-brought (s n) (tab n) (clock n) (report n) (g n) A (honest n) i k li lk z (sym (rw (es, eg)) ∙ one) in
-          record { call = n; before = omega arith; accepted = a; ran-here = b .0; that-job = b .1; finished = b .2 })
+        let b = pass-brought (s n) (tab n) (clock n) (report n) (g n) A (honest n) i k li lk z (sym (rw (es, eg)) ∙ one) in
+        record { call = n; before = omega arith; accepted = a; ran-here = b .0; that-job = b .1; finished = b .2 })
         (λ (nz : byteOf (s n) (g n) i k ≡ 0 → ⊥). earlier-too n i k (so-far (sym (never-rewritten n i k li lk nz) ∙ one)))
         (eq-or-ne (byteOf (s n) (g n) i k) 0)
 

@@ -1,20 +1,20 @@
 -- What the state and the log of a drive are before each slice: the jobs as far as the plan's run has brought them.
-use mathlib.Core.Path.{_≡_, refl, sym, ap, ap₂, subst, _∙_}
+use mathlib.Core.Path.{_≡_, sym, ap, ap₂, subst, _∙_}
 use mathlib.Core.List.{List}
-use mathlib.Core.Bool.{Bool, true, false, true≢false, _||_}
-use mathlib.Core.Logic.{_⊎_, inl, inr, ⊎-elim}
-use Prim.Native.Nat.{ℕ, zero, suc, _+_, _-_, _*_, _/_, _%_, _≤_, _<_, min}
+use mathlib.Core.Bool.{Bool, true, false, _||_}
+use mathlib.Core.Logic.{⊎-elim}
+use Prim.Native.Nat.{ℕ, zero, suc, _+_, _/_, _%_, _≤_, _<_, min}
 use native.Mathlib.Omega.{arith}
-use lib.Dec.{eqb, leb, ltb}
+use lib.Dec.{eqb, leb}
 use borrow.Author.Tests.{eq-eqb, ne-eqb, le-leb, lt-leb}
 use lib.ListN.{length, getD}
 use Rattle.basis.specs.Choose.{choose, choose-yes, choose-no, bool-cases, le-or-lt, eq-or-ne}
-use Rattle.plan.specs.Plan.{Plan, Sound, Monotonic, Demand, job, age, keyIn, gets, had, entry, takes, table, OnTimeUpTo}
+use Rattle.plan.specs.Plan.{Plan, Monotonic, Demand, job, age, gets, had, entry, takes, OnTimeUpTo}
 use Rattle.plan.specs.Work.{gets-one, gets-none, gets-cases}
 use Rattle.run.specs.Places.{job-in-cycle}
 use Rattle.plan.specs.Progress.{hadUpTo, current-had, current-grows, others-stay}
 use Rattle.plan.specs.Domination.{had-by-deadline, on-time-before}
-use Rattle.plan.specs.Run.{goes-on-or-ends, age-goes-on, job-goes-on as job-stays, age-anew, job-anew as job-next, age-below, had-goes-on, had-anew}
+use Rattle.plan.specs.Run.{goes-on-or-ends, age-goes-on, job-goes-on as job-stays, age-anew, age-below, had-goes-on, had-anew}
 use Rattle.run.specs.declared.Job.{Job}
 use Rattle.run.specs.declared.Mode.{Mode}
 use Rattle.run.specs.declared.State.{State}
@@ -65,10 +65,10 @@ ends-now h need runtime report l er =
     ⊎-elim
     (λ (e : h + 1 ≡ need). rw (er, eq-eqb (h + 1) need e, le-leb (min need runtime) (h + 1) (omega arith)))
     (λ (ne : h + 1 ≡ need → ⊥).
-      ⊎-elim
-      (λ (f : h + 1 ≡ runtime). rw (er, ne-eqb (h + 1) need ne, eq-eqb (h + 1) runtime f, le-leb (min need runtime) (h + 1) (omega arith)))
-      (λ (nf : h + 1 ≡ runtime → ⊥). rw (er, ne-eqb (h + 1) need ne, ne-eqb (h + 1) runtime nf, lt-leb (min need runtime) (h + 1) (omega arith)))
-      (eq-or-ne (h + 1) runtime))
+    ⊎-elim
+    (λ (f : h + 1 ≡ runtime). rw (er, ne-eqb (h + 1) need ne, eq-eqb (h + 1) runtime f, le-leb (min need runtime) (h + 1) (omega arith)))
+    (λ (nf : h + 1 ≡ runtime → ⊥). rw (er, ne-eqb (h + 1) need ne, ne-eqb (h + 1) runtime nf, lt-leb (min need runtime) (h + 1) (omega arith)))
+    (eq-or-ne (h + 1) runtime))
     (eq-or-ne (h + 1) need)
 
 module _ (s : State) (e i h need runtime report : ℕ) (J : HasHad (jobOf s i) h need runtime) (rt : runtimeOf s i ≡ runtime)
@@ -78,24 +78,26 @@ module _ (s : State) (e i h need runtime report : ℕ) (J : HasHad (jobOf s i) h
   slice-brings =
       ⊎-elim
       (λ (own : e ≡ suc i).
-        ⊎-elim
-        (λ (done : min need runtime ≤ h).
-          let over : unlessEnded s e ≡ suc i → ⊥ = λ q. omega (arith, unless-ended s e i own (J .ended-is ∙ le-leb (min need runtime) h done)) in
-          rw (slice-elsewhere s (unlessEnded s e) report i over)
-          (record {
-            used-is = omega (arith, J .used-is, gets-one e i own);
-            ended-is = J .ended-is ∙ le-leb (min need runtime) h done ∙ sym (le-leb (min need runtime) (h + gets e i) (omega arith)) }))
-        (λ (open-still : h < min need runtime).
-          let runs : unlessEnded s e ≡ suc i = unless-open s e i own (J .ended-is ∙ lt-leb (min need runtime) h open-still) in
-          let had-it : jobOf s i .used ≡ h = omega (arith, J .used-is) in
-          rw (slice-here s (unlessEnded s e) report i runs)
-          (record {
-            used-is = omega (arith, gets-one e i own);
-            ended-is = rw (had-it, rt, gets-one e i own) (ends-now h need runtime report open-still (rw had-it at (reports runs))) }))
-        (le-or-lt (min need runtime) h))
+      ⊎-elim
+      (λ (done : min need runtime ≤ h).
+      let over : unlessEnded s e ≡ suc i → ⊥ = λ q. omega (arith, unless-ended s e i own (J .ended-is ∙ le-leb (min need runtime) h done)) in
+      rw (slice-elsewhere s (unlessEnded s e) report i over)
+      (record {
+        used-is = omega (arith, J .used-is, gets-one e i own);
+        ended-is = J .ended-is ∙ le-leb (min need runtime) h done ∙ sym (le-leb (min need runtime) (h + gets e i) (omega arith));
+      }))
+      (λ (open-still : h < min need runtime).
+      let runs : unlessEnded s e ≡ suc i = unless-open s e i own (J .ended-is ∙ lt-leb (min need runtime) h open-still) in
+      let had-it : jobOf s i .used ≡ h = omega (arith, J .used-is) in
+      rw (slice-here s (unlessEnded s e) report i runs)
+      (record {
+        used-is = omega (arith, gets-one e i own);
+        ended-is = rw (had-it, rt, gets-one e i own) (ends-now h need runtime report open-still (rw had-it at (reports runs)));
+      }))
+      (le-or-lt (min need runtime) h))
       (λ (other : e ≡ suc i → ⊥).
-        rw (slice-elsewhere s (unlessEnded s e) report i (λ q. other (unless-is s e i q)))
-        (record { used-is = omega (arith, J .used-is, gets-none e i other); ended-is = J .ended-is ∙ ap (leb (min need runtime)) (omega (arith, gets-none e i other)) }))
+      rw (slice-elsewhere s (unlessEnded s e) report i (λ q. other (unless-is s e i q)))
+      (record { used-is = omega (arith, J .used-is, gets-none e i other); ended-is = J .ended-is ∙ ap (leb (min need runtime)) (omega (arith, gets-none e i other)) }))
       (eq-or-ne e (suc i))
 
 -- ---- the state and the log of a drive
@@ -203,9 +205,9 @@ module _ (P : Plan) (M : Monotonic P) (whole : (i : ℕ) → i < P .count → P 
     job-next-is =
         ⊎-elim
         (λ (l : suc (age P i p) < P .period i).
-          rw (job-goes-on s ran report i (goes-on-not-last l), had-goes-on P (M .sound) d i li p l, job-stays P (M .sound) i li p l) after-slice)
+        rw (job-goes-on s ran report i (goes-on-not-last l), had-goes-on P (M .sound) d i li p l, job-stays P (M .sound) i li p l) after-slice)
         (λ (e : suc (age P i p) ≡ P .period i).
-          rw (job-anew s ran report i (ends-last e), had-anew P (M .sound) d i li p e) (fresh-has (need i (job P i (suc p))) (P .runtime i (job P i (suc p))) (needs i (job P i (suc p)) li) (runtime-some (job P i (suc p)))))
+        rw (job-anew s ran report i (ends-last e), had-anew P (M .sound) d i li p e) (fresh-has (need i (job P i (suc p))) (P .runtime i (job P i (suc p))) (needs i (job P i (suc p)) li) (runtime-some (job P i (suc p)))))
         (goes-on-or-ends P (M .sound) i li p)
 
     -- ---- its byte
@@ -224,7 +226,7 @@ module _ (P : Plan) (M : Monotonic P) (whole : (i : ℕ) → i < P .count → P 
         ⊎-elim
         (λ (o : suc (age P i p) < P .period i). goes-on-not-last o)
         (λ (e : suc (age P i p) ≡ P .period i).
-          absurd (omega (arith, enough i k li, had-by-deadline P (M .sound) d i li p (on-time-before P d (suc p) cycle lp on) (e ∙ sym (whole i li)))))
+        absurd (omega (arith, enough i k li, had-by-deadline P (M .sound) d i li p (on-time-before P d (suc p) cycle lp on) (e ∙ sym (whole i li)))))
         (goes-on-or-ends P (M .sound) i li p)
 
     place-is : place s i ≡ offset s i + k
@@ -258,13 +260,13 @@ module _ (P : Plan) (M : Monotonic P) (whole : (i : ℕ) → i < P .count → P 
       ending-byte =
           ⊎-elim
           (λ (l : need i k ≤ P .runtime i k).
-            let reached : jobOf s i .used + 1 ≡ need i k = omega (arith, count-is-takes) in
-            log-done s tab (nextClock (s .clock)) report g A i li-state (ran-is ∙ runs) (reports i li runs ∙ choose-yes (eqb (jobOf s i .used + 1) (need i k)) 1 0 (eq-eqb _ _ reached))
-            ∙ sym (choose-yes (leb (need i k) (P .runtime i k)) 1 2 (le-leb (need i k) (P .runtime i k) l)))
+          let reached : jobOf s i .used + 1 ≡ need i k = omega (arith, count-is-takes) in
+          log-done s tab (nextClock (s .clock)) report g A i li-state (ran-is ∙ runs) (reports i li runs ∙ choose-yes (eqb (jobOf s i .used + 1) (need i k)) 1 0 (eq-eqb _ _ reached))
+          ∙ sym (choose-yes (leb (need i k) (P .runtime i k)) 1 2 (le-leb (need i k) (P .runtime i k) l)))
           (λ (l : P .runtime i k < need i k).
-            let not-reached : jobOf s i .used + 1 ≡ need i k → ⊥ = λ e. omega (arith, count-is-takes) in
-            log-over s tab (nextClock (s .clock)) report g A i li-state (ran-is ∙ runs) (reports i li runs ∙ choose-no (eqb (jobOf s i .used + 1) (need i k)) 1 0 (ne-eqb _ _ not-reached)) (omega (arith, count-is-takes, runtime-here))
-            ∙ sym (choose-no (leb (need i k) (P .runtime i k)) 1 2 (lt-leb (need i k) (P .runtime i k) l)))
+          let not-reached : jobOf s i .used + 1 ≡ need i k → ⊥ = λ e. omega (arith, count-is-takes) in
+          log-over s tab (nextClock (s .clock)) report g A i li-state (ran-is ∙ runs) (reports i li runs ∙ choose-no (eqb (jobOf s i .used + 1) (need i k)) 1 0 (ne-eqb _ _ not-reached)) (omega (arith, count-is-takes, runtime-here))
+          ∙ sym (choose-no (leb (need i k) (P .runtime i k)) 1 2 (lt-leb (need i k) (P .runtime i k) l)))
           (le-or-lt (need i k) (P .runtime i k))
 
     byte-then : getD (logAfter s ran report g) (place s i) 0 ≡ byteUpTo P need d i k (suc p)
@@ -272,15 +274,15 @@ module _ (P : Plan) (M : Monotonic P) (whole : (i : ℕ) → i < P .count → P 
     byte-then =
         ⊎-elim
         (λ (ended : b ≤ had P d p i).
-          log-ended s tab (nextClock (s .clock)) report g A i li-state (R .jobs-are i li .ended-is ∙ le-leb b (had P d p i) ended)
-          ∙ byte-before ∙ byte-result P need d i k p (omega (arith, had-before)) ∙ sym (byte-result P need d i k (suc p) (omega (arith, had-then))))
+        log-ended s tab (nextClock (s .clock)) report g A i li-state (R .jobs-are i li .ended-is ∙ le-leb b (had P d p i) ended)
+        ∙ byte-before ∙ byte-result P need d i k p (omega (arith, had-before)) ∙ sym (byte-result P need d i k (suc p) (omega (arith, had-then))))
         (λ (short : had P d p i < b).
-          ⊎-elim
-          (λ (full : b ≤ now-had). ending-byte short full ∙ sym (byte-result P need d i k (suc p) (omega (arith, had-then))))
-          (λ (still : now-had < b).
-            log-open s tab (nextClock (s .clock)) report g A i li-state (after-slice .ended-is ∙ lt-leb b now-had still) (not-last still)
-            ∙ byte-before ∙ byte-none P need d i k p (omega (arith, had-before)) ∙ sym (byte-none P need d i k (suc p) (omega (arith, had-then))))
-          (le-or-lt b now-had))
+        ⊎-elim
+        (λ (full : b ≤ now-had). ending-byte short full ∙ sym (byte-result P need d i k (suc p) (omega (arith, had-then))))
+        (λ (still : now-had < b).
+        log-open s tab (nextClock (s .clock)) report g A i li-state (after-slice .ended-is ∙ lt-leb b now-had still) (not-last still)
+        ∙ byte-before ∙ byte-none P need d i k p (omega (arith, had-before)) ∙ sym (byte-none P need d i k (suc p) (omega (arith, had-then))))
+        (le-or-lt b now-had))
         (le-or-lt b (had P d p i))
 
   -- every job's byte
@@ -290,8 +292,8 @@ module _ (P : Plan) (M : Monotonic P) (whole : (i : ℕ) → i < P .count → P 
       ⊎-elim
       (λ (e : k ≡ job P i p). subst (λ (x : ℕ). getD (logAfter s ran report g) (offset s i + x) 0 ≡ byteUpTo P need d i x (suc p)) (sym e) (sym (ap (λ (x : ℕ). getD (logAfter s ran report g) x 0) (place-is i li)) ∙ byte-then i li))
       (λ (ne : k ≡ job P i p → ⊥).
-        log-other-job s tab (nextClock (s .clock)) report g A i k (li-state i li) (subst (λ (x : ℕ). k < x) (sym (ap₂ _/_ (R .carries .cycle-is) (R .carries .period-is i li))) lk) (λ e. ne (e ∙ job-is i li))
-        ∙ R .bytes-are i k li lk ∙ ap (λ (x : ℕ). choose (leb (takes P need i k) x) (resultByte P need i k) 0) (sym (others-stay P (M .sound) d i li k p ne)))
+      log-other-job s tab (nextClock (s .clock)) report g A i k (li-state i li) (subst (λ (x : ℕ). k < x) (sym (ap₂ _/_ (R .carries .cycle-is) (R .carries .period-is i li))) lk) (λ e. ne (e ∙ job-is i li))
+      ∙ R .bytes-are i k li lk ∙ ap (λ (x : ℕ). choose (leb (takes P need i k) x) (resultByte P need i k) 0) (sym (others-stay P (M .sound) d i li k p ne)))
       (eq-or-ne k (job P i p))
 
   -- The next state and log are those of the next slice.
@@ -303,17 +305,19 @@ module _ (P : Plan) (M : Monotonic P) (whole : (i : ℕ) → i < P .count → P 
           cycle-is = kept .cycle-kept ∙ R .carries .cycle-is;
           period-is = λ i li. kept .period-kept i ∙ R .carries .period-is i li;
           runtime-is = λ i li. kept .runtime-kept i ∙ R .carries .runtime-is i li;
-          jobs-room = omega (arith, kept .jobs-length, R .carries .jobs-room) };
+          jobs-room = omega (arith, kept .jobs-length, R .carries .jobs-room);
+        };
         mode-is = kept .mode-kept ∙ R .mode-is;
         room = omega (arith, kept .job-count-kept, R .room);
         is-sound = state-after-sound s tab (nextClock (s .clock)) report g A;
         position-is = omega (arith, kept .position-next, R .position-is);
         jobs-are = λ i li.
-          subst (λ (j : Job). HasHad j (had P d (suc p) i) (need i (job P i (suc p))) (P .runtime i (job P i (suc p))))
-          (sym (job-after s tab (nextClock (s .clock)) report g A i (li-state i li) (omega (arith, R .carries .jobs-room)))) (job-next-is i li);
+            subst (λ (j : Job). HasHad j (had P d (suc p) i) (need i (job P i (suc p))) (P .runtime i (job P i (suc p))))
+            (sym (job-after s tab (nextClock (s .clock)) report g A i (li-state i li) (omega (arith, R .carries .jobs-room)))) (job-next-is i li);
         bytes-are = λ i k li lk. ap (λ (x : ℕ). getD (logAfter s ran report g) (x + k) 0) (kept .offset-kept i) ∙ bytes-then i k li lk;
         beyond = λ x l. log-beyond s tab (nextClock (s .clock)) report g A x (omega (arith, kept .job-count-kept)) ∙ R .beyond x (omega (arith, kept .job-count-kept));
-        long = log-length s tab (nextClock (s .clock)) report g A ∙ R .long }
+        long = log-length s tab (nextClock (s .clock)) report g A ∙ R .long;
+      }
     where
       kept : HandedOn s (stateAfter s ran (nextClock (s .clock)) report) (nextClock (s .clock))
       kept = handed-on s ran (nextClock (s .clock)) report

@@ -301,8 +301,14 @@ found-most l supply =
     (first-to-6 _ (λ i. choose-either UpTo6 _ _ _ (omega arith) (choose-either UpTo6 _ _ _ (omega arith) (omega arith))) (l .count)))
     (choose-either UpTo6 _ _ _ (omega arith) (choose-either UpTo6 _ _ _ (omega arith) (omega arith)))
 
-pub broken-number : (l : TaskList) (supply number task : ℕ) → boundsOf l supply ≡ Broken number task → number ≤ 6
-broken-number l supply number task e =
+-- A broken bound is answered by what is found.
+pub record BrokenAs (l : TaskList) (supply number task : ℕ) : Type 0 where
+  pub some : found l supply .number ≡ 0 → ⊥
+  pub number-is : number ≡ found l supply .number
+  pub task-is : task ≡ found l supply .task
+
+pub broken-tells : (l : TaskList) (supply number task : ℕ) → boundsOf l supply ≡ Broken number task → BrokenAs l supply number task
+broken-tells l supply number task e =
     ⊎-elim
     (λ (z : found l supply .number ≡ 0).
     let never : Broken number task ≡ Kept (cycleOf l) (jobsOf l) = sym e ∙ bounds-kept l supply (nothing-found l supply .0 z) in
@@ -310,6 +316,8 @@ broken-number l supply number task e =
     absurd (omega arith))
     (λ (nz : found l supply .number ≡ 0 → ⊥).
     let same : Broken number task ≡ Broken (found l supply .number) (found l supply .task) = sym e ∙ bounds-broken l supply nz in
-    let n : number ≡ found l supply .number = cc in
-    omega (arith, found-most l supply))
+    record { some = nz; number-is = cc; task-is = cc })
     (eq-or-ne (found l supply .number) 0)
+
+pub broken-number : (l : TaskList) (supply number task : ℕ) → boundsOf l supply ≡ Broken number task → number ≤ 6
+broken-number l supply number task e = omega (arith, broken-tells l supply number task e .number-is, found-most l supply)
