@@ -192,8 +192,8 @@ module _ (l : TaskList) (supply : ℕ) (K : KeepsBounds l supply) (m : Mode) (cl
 
 -- An accepted list starts, if the log has room for its jobs.
 pub accepted-starts : (l : TaskList) (supply : ℕ) (asked : Asked) (clock : ℕ) (log log′ : List ℕ) (r : Started)
-    → Begins l supply asked clock log log′ r → KeepsBounds l supply → numbers (verdictOf l supply) .number ≡ 0 → jobsOf l ≤ length log → begunNumbers (r .answer) .number ≡ 0
+    → Begins l supply asked clock log log′ r → numbers (verdictOf l supply) .number ≡ 0 → jobsOf l ≤ length log → begunNumbers (r .answer) .number ≡ 0
 unfolding begunOf begunNumbers
-accepted-starts l supply asked clock log log′ r B K z room =
+accepted-starts l supply asked clock log log′ r B z room =
     ap (λ (x : Begun). begunNumbers x .number)
-    (B .answer ∙ ap (λ (v : Verdict). begunOf v (length log)) (accepted-as l supply K z .is) ∙ choose-no _ _ _ (le-ltb (length log) (jobsOf l) room))
+    (B .answer ∙ ap (λ (v : Verdict). begunOf v (length log)) (accepted-as l supply z .is) ∙ choose-no _ _ _ (le-ltb (length log) (jobsOf l) room))

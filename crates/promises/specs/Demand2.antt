@@ -25,7 +25,7 @@ use Rattle.tasks.specs.declared.TaskList.{TaskList}
 use Rattle.tasks.specs.declared.Bounds.the-variants.{Kept, Broken}
 use Rattle.tasks.specs.List.{planOf}
 use Rattle.tasks.specs.Bounds.{cycleOf, jobsOf}
-use Rattle.tasks.specs.Kept.{KeepsBounds, bounds-kept, plan-monotonic, period-within-cycle, period-divides-cycle}
+use Rattle.tasks.specs.Kept.{KeepsBounds, broken-tells, bounds-kept, plan-monotonic, period-within-cycle, period-divides-cycle}
 use Rattle.verdict.specs.declared.Verdict.{Verdict}
 use Rattle.verdict.specs.declared.Verdict.the-variants.{Accepted, Refused}
 use Rattle.verdict.specs.Lateness.{received, missing, missedAt}
@@ -35,6 +35,20 @@ use Rattle.basis.specs.Signed.{zero-less}
 use Rattle.verdict.specs.Answers.{ByBounds, ForLateness, OnTimeAll, on-time-accepted, verdict-tells}
 use Rattle.verdict.specs.Table.{fitted, tabled, Built}
 use Rattle.verdict.specs.Deadlines.{EarliestMissed, missed-lacks, missing-is, closes-deadline}
+
+-- ---- what an accepted verdict is
+-- A list is accepted only if it keeps all bounds and every job of the cycle is on time.
+pub accepted-as : (l : TaskList) (supply : ℕ) → numbers (verdictOf l supply) .number ≡ 0 → OnTimeAll l supply (verdictOf l supply)
+unfolding numbers
+accepted-as l supply z =
+    ⊎-elim
+    (λ (h : ByBounds l supply (verdictOf l supply)).
+    let T = broken-tells l supply (h .number) (h .task) (h .broken) in
+    absurd (T .some (sym (T .number-is) ∙ sym (ap (λ (v : Verdict). numbers v .number) (h .is)) ∙ z)))
+    (⊎-elim
+    (λ (h : ForLateness l supply (verdictOf l supply)). absurd (omega (arith, ap (λ (v : Verdict). numbers v .number) (h .is))))
+    (λ (h : OnTimeAll l supply (verdictOf l supply)). h))
+    (verdict-tells l supply)
 
 -- ---- accepted exactly if every task passes
 module _ (l : TaskList) (supply : ℕ) (K : KeepsBounds l supply) where
@@ -66,10 +80,6 @@ module _ (l : TaskList) (supply : ℕ) (K : KeepsBounds l supply) where
   accepted-exactly =
       let exact = test-exact-up-to (planOf l) (plan-monotonic l supply K) (cycleOf l) within-cycle in
       (λ z. exact .1 (accepted-on-time .0 z), λ pass. accepted-on-time .1 (exact .0 pass))
-
-  -- accepted, it is accepted with these values
-  pub accepted-as : numbers (verdictOf l supply) .number ≡ 0 → OnTimeAll l supply (verdictOf l supply)
-  accepted-as z = on-time-accepted l supply K (accepted-on-time .0 z)
 
 -- ---- refusal 7
 -- what lacks s of its run-time has received less its run-time minus s
@@ -345,7 +355,7 @@ module _ (l : TaskList) (supply : ℕ) (K : KeepsBounds l supply) where
   pub accepted-values : numbers (verdictOf l supply) .number ≡ 0 → AcceptedAs l (numbers (verdictOf l supply))
   unfolding numbers margin planOf
   accepted-values z =
-      rw (accepted-as l supply K z .is)
+      rw (accepted-as l supply z .is)
       (record {
         place = tightest (planOf l) (l .count);
         below = T .is-below;
@@ -381,7 +391,7 @@ module _ (l : TaskList) (supply : ℕ) (K : KeepsBounds l supply) (old new : Lis
   built-as : numbers v .number ≡ 0 → (cycleOf l ≤ length old) × (new ≡ overwrite (table (planOf l)) (cycleOf l) old)
   unfolding numbers fitted tabled
   built-as z =
-      let e = accepted-as l supply K (list-accepted z) .is in
+      let e = accepted-as l supply (list-accepted z) .is in
       let answer = B .answer ∙ ap (λ (x : Verdict). fitted x (length old)) e in
       ⊎-elim
       (λ (r : cycleOf l ≤ length old).

@@ -1,4 +1,5 @@
 -- The demands, stated of the definitions that the public contracts cite.
+pub mod Demand1
 pub mod Drive
 pub mod Reached
 pub mod Driven
