@@ -1,14 +1,12 @@
 -- Demand 1: what breaks a rule is refused by its number, and after a refusal table, log and state hold what they held before.
 -- A result byte of 0 means no result. (That every input gets an answer is that no public function has a requires.)
-use mathlib.Core.Path.{_≡_, refl, sym, ap, _∙_}
+use mathlib.Core.Path.{_≡_, refl, ap, _∙_}
 use mathlib.Core.Bool.{false}
 use mathlib.Core.List.{List}
-use Prim.Native.Nat.{ℕ, zero, suc}
-use native.Mathlib.Omega.{arith}
+use Prim.Native.Nat.{ℕ, suc}
 use lib.Dec.{ltb}
-use lib.IntN.{ℤ}
 use lib.ListN.{length}
-use Rattle.basis.specs.Choose.{choose, bool-cases, choose-yes, choose-no}
+use Rattle.basis.specs.Choose.{bool-cases, choose-yes, choose-no}
 use mathlib.Core.Logic.{⊎-elim}
 use mathlib.Core.Bool.{true}
 use Rattle.tasks.specs.declared.TaskList.{TaskList}

@@ -1,7 +1,8 @@
 -- A task list read as a plan: rate-monotonic, every deadline at the end of the period, one run-time a task.
 use Prim.Native.Nat.{ℕ}
 use mathlib.Core.List.{List}
-use lib.ListN.{getD}
+use lib.ListN.{getD, length, replicate}
+use Rattle.basis.specs.Bytes.{overwrite}
 use Rattle.plan.specs.Plan.{Plan}
 use Rattle.tasks.specs.declared.Task.{Task}
 use Rattle.tasks.specs.declared.TaskList.{TaskList}
@@ -24,3 +25,7 @@ planOf l =
       runtime = λ i k. taskAt (l .tasks) i .runtime;
       key = λ i k. taskAt (l .tasks) i .period;
     }
+
+-- The list that a run of records makes: the first 16 of them, and a count that says how many there are, more than 16 too.
+unfoldable pub listOf : List Task → TaskList
+listOf ts = record { tasks = overwrite (taskAt ts) 16 (replicate 16 noTask); count = length ts }
