@@ -8,3 +8,6 @@ pub mod EmptyChamber
 pub mod Demand2
 pub mod Begun
 pub mod Demand3
+pub mod Exists
+pub mod Wrong
+pub mod Determined

@@ -1,0 +1,79 @@
+-- Each public contract determines the answer and every lent byte afterwards: any two answers that keep it are equal. Each theorem
+-- names the function whose contract it repeats. The functions over a lent run of records and their likes for a list by value keep
+-- the contract of the function they go to, with the list of the records, so its theorem is theirs.
+use mathlib.Core.Path.{_≡_, sym, ap, ap₂, _∙_}
+use mathlib.Core.List.{List}
+use Prim.Native.Nat.{ℕ}
+use Rattle.tasks.specs.declared.TaskList.{TaskList}
+use Rattle.tasks.specs.declared.Bounds.{Bounds}
+use Rattle.tasks.specs.Bounds.{boundsOf}
+use Rattle.verdict.specs.declared.Verdict.{Verdict}
+use Rattle.verdict.specs.Verdict.{verdictOf}
+use Rattle.verdict.specs.Table.{tabled, Built}
+use Rattle.start.specs.declared.Asked.{Asked}
+use Rattle.start.specs.declared.Begun.{Begun}
+use Rattle.start.specs.declared.Started.{Started}
+use Rattle.start.specs.Start.{Begins}
+use Rattle.run.specs.declared.State.{State}
+use Rattle.run.specs.declared.Runner.{Runner}
+use Rattle.run.specs.declared.Closed.{Closed}
+use Rattle.run.specs.declared.Next.{Next}
+use Rattle.run.specs.Who.{whoOf}
+use Rattle.run.specs.Step.{Stepped}
+use Rattle.readings.specs.declared.Entry.{Entry}
+use Rattle.readings.specs.declared.Refusal.{Refusal}
+use Rattle.readings.specs.declared.Logged.{Logged}
+use Rattle.readings.specs.Reading.{entryOf, refusalOf, loggedOf}
+use Rattle.units.specs.declared.Slices.{Slices}
+use Rattle.units.specs.Conversion.{paper, runtimeOf, periodOf}
+use Rattle.units.specs.Laws.{paper-tells}
+
+-- what equals one thing is one thing
+same : {A : Type 0} {x r r′ : A} → r ≡ x → r′ ≡ x → r ≡ r′
+same e e′ = e ∙ sym e′
+
+-- tasks: check_bounds
+pub check-bounds : (l : TaskList) (supply : ℕ) (r r′ : Bounds) → r ≡ boundsOf l supply → r′ ≡ boundsOf l supply → r ≡ r′
+check-bounds l supply r r′ e e′ = same e e′
+
+-- verdict: judge; lent: judge_lent, judge_list
+pub judge : (l : TaskList) (supply : ℕ) (r r′ : Verdict) → r ≡ verdictOf l supply → r′ ≡ verdictOf l supply → r ≡ r′
+judge l supply r r′ e e′ = same e e′
+
+-- verdict: build, with the table; lent: build_lent, build_list
+pub build : (l : TaskList) (supply : ℕ) (old new new′ : List ℕ) (r r′ : Verdict) → Built l supply old new r → Built l supply old new′ r′ → (r ≡ r′) × (new ≡ new′)
+build l supply old new new′ r r′ B B′ =
+    (same (B .answer) (B′ .answer), B .bytes ∙ ap (λ (v : Verdict). tabled l v old) (same (B .answer) (B′ .answer)) ∙ sym (B′ .bytes))
+
+-- start: start, with the log; lent: start_lent, start_list
+pub start : (l : TaskList) (supply : ℕ) (asked : Asked) (clock : ℕ) (log new new′ : List ℕ) (r r′ : Started)
+    → Begins l supply asked clock log new r → Begins l supply asked clock log new′ r′ → (r ≡ r′) × (new ≡ new′)
+start l supply asked clock log new new′ r r′ B B′ =
+    (ap₂ (λ (a : Begun) (s : State). record { answer = a; state = s }) (same (B .answer) (B′ .answer)) (same (B .state) (B′ .state)), same (B .bytes) (B′ .bytes))
+
+-- run: who
+pub who : (s : State) (table : List ℕ) (r r′ : Runner) → r ≡ whoOf s table → r′ ≡ whoOf s table → r ≡ r′
+who s table r r′ e e′ = same e e′
+
+-- run: step, with the log
+pub step : (s : State) (table : List ℕ) (clock report : ℕ) (log new new′ : List ℕ) (r r′ : Next)
+    → Stepped s table clock report log new r → Stepped s table clock report log new′ r′ → (r ≡ r′) × (new ≡ new′)
+step s table clock report log new new′ r r′ S S′ =
+    (ap₂ (λ (a : Closed) (x : State). record { answer = a; state = x }) (same (S .answer) (S′ .answer)) (same (S .state) (S′ .state)), same (S .bytes) (S′ .bytes))
+
+-- readings: read_entry, read_refusal, read_logged
+pub read-entry : (byte count : ℕ) (r r′ : Entry) → r ≡ entryOf byte count → r′ ≡ entryOf byte count → r ≡ r′
+read-entry byte count r r′ e e′ = same e e′
+
+pub read-refusal : (number : ℕ) (r r′ : Refusal) → r ≡ refusalOf number → r′ ≡ refusalOf number → r ≡ r′
+read-refusal number r r′ e e′ = same e e′
+
+pub read-logged : (byte : ℕ) (r r′ : Logged) → r ≡ loggedOf byte → r′ ≡ loggedOf byte → r ≡ r′
+read-logged byte r r′ e e′ = same e e′
+
+-- units: runtime_slices, period_slices
+pub runtime-slices : (micros slice : ℕ) (r r′ : Slices) → paper r ≡ runtimeOf micros slice → paper r′ ≡ runtimeOf micros slice → r ≡ r′
+runtime-slices micros slice r r′ e e′ = paper-tells r r′ (same e e′)
+
+pub period-slices : (micros slice : ℕ) (r r′ : Slices) → paper r ≡ periodOf micros slice → paper r′ ≡ periodOf micros slice → r ≡ r′
+period-slices micros slice r r′ e e′ = paper-tells r r′ (same e e′)
