@@ -1,11 +1,15 @@
--- What demand 3 speaks of is there: every list has its drives, for any needs, table and log, and an accepted one whose log has room
--- is not refused at the start.
+-- What demand 3 speaks of is there: an accepted build gives the list's own table, and every list has its drives, for any needs,
+-- table and log. (That an accepted list whose log has room is not refused at the start is `accepted-starts` of Begun.)
 use mathlib.Core.Path.{_≡_, refl}
 use mathlib.Core.List.{List}
 use Prim.Native.Nat.{ℕ, zero, suc}
 use lib.ListN.{length}
 use Rattle.tasks.specs.declared.TaskList.{TaskList}
-use Rattle.verdict.specs.Verdict.{verdictOf}
+use Rattle.tasks.specs.List.{planOf}
+use Rattle.tasks.specs.Bounds.{cycleOf}
+use Rattle.verdict.specs.declared.Verdict.{Verdict}
+use Rattle.verdict.specs.Verdict.{verdictOf, numbers}
+use Rattle.verdict.specs.Table.{Built}
 use Rattle.start.specs.declared.Asked.{Asked}
 use Rattle.start.specs.declared.Started.{Started}
 use Rattle.start.specs.Start.{begunOf, begunState, begunLog}
@@ -14,7 +18,14 @@ use Rattle.run.specs.declared.State.{State}
 use Rattle.run.specs.declared.Next.{Next}
 use Rattle.run.specs.Who.{running}
 use Rattle.run.specs.Step.{nextClock, stepRefusal, stateAfter, logAfter, answerOf, nextState, nextLog}
-use Rattle.promises.specs.Drive.{reportOf, Drive}
+use Rattle.promises.specs.Drive.{reportOf, Own, Drive}
+use Rattle.promises.specs.Demand2.{accepted-as, list-accepted, table-is}
+
+-- What an accepted build leaves in the lent bytes is the list's own table.
+pub own-table : (l : TaskList) (supply : ℕ) (old new : List ℕ) (v : Verdict) → Built l supply old new v → numbers v .number ≡ 0 → Own (planOf l) (cycleOf l) new
+own-table l supply old new v B z =
+    let T = table-is l supply (accepted-as l supply (list-accepted l supply old new v B z) .keeps) old new v B z in
+    record { reaches = T .reaches; entries = T .entries }
 
 module _ (l : TaskList) (supply : ℕ) (asked : Asked) (clock : ℕ) (need : Demand) (tab log : List ℕ) where
   record Held : Type 0 where
