@@ -2,3 +2,5 @@
 pub mod Text
 pub mod Written
 pub mod Shapes
+pub mod Decimal
+pub mod Cases

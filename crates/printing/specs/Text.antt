@@ -4,7 +4,14 @@ use Prim.Native.Nat.{ℕ, zero, suc, _+_, _/_, _%_}
 use lib.Dec.{ltb}
 use lib.IntN.{ℤ, pos, negsuc, natAbs}
 use lib.ListN.{length, getD}
+use Prim.Native.Char.{code}
+use Prim.Native.String.{String, [] as end, _∷_ as _then_}
 use Rattle.basis.specs.Choose.{choose}
+
+-- The bytes of a text whose characters are all below 128.
+unfoldable pub ascii : String → List ℕ
+ascii end = []
+ascii (c then s) = code c ∷ ascii s
 
 -- ---- fields
 -- "0" to "9"
@@ -23,31 +30,28 @@ decimal n = digitsIn (suc n) n
 -- "-" exactly below zero
 unfoldable pub sign : ℤ → List ℕ
 sign (pos n) = []
-sign (negsuc n) = 45 ∷ []
+sign (negsuc n) = ascii "-"
 
 unfoldable pub signedDecimal : ℤ → List ℕ
 signedDecimal z = sign z ++ decimal (natAbs z)
 
 unfoldable pub comma : List ℕ
-comma = 44 ∷ []
+comma = ascii ","
 
 unfoldable pub crlf : List ℕ
-crlf = 13 ∷ 10 ∷ []
+crlf = ascii "\r\n"
 
 -- ---- a refusal
--- "refusal,task,margin" CRLF
 unfoldable pub refusalHeader : List ℕ
-refusalHeader =
-    114 ∷ 101 ∷ 102 ∷ 117 ∷ 115 ∷ 97 ∷ 108 ∷ 44 ∷ 116 ∷ 97 ∷ 115 ∷ 107 ∷ 44 ∷ 109 ∷ 97 ∷ 114 ∷ 103 ∷ 105 ∷ 110 ∷ 13 ∷ 10 ∷ []
+refusalHeader = ascii "refusal,task,margin" ++ crlf
 
 -- The header and one record: the refusal's number, the task, the margin.
 unfoldable pub refusalText : ℕ → ℕ → ℤ → List ℕ
 refusalText number task margin = refusalHeader ++ decimal number ++ comma ++ decimal task ++ comma ++ signedDecimal margin ++ crlf
 
 -- ---- a table
--- "slice,task" CRLF
 unfoldable pub tableHeader : List ℕ
-tableHeader = 115 ∷ 108 ∷ 105 ∷ 99 ∷ 101 ∷ 44 ∷ 116 ∷ 97 ∷ 115 ∷ 107 ∷ 13 ∷ 10 ∷ []
+tableHeader = ascii "slice,task" ++ crlf
 
 -- a slice's number, then its entry
 unfoldable pub sliceRecord : ℕ → ℕ → List ℕ

@@ -1,3 +1,9 @@
+-- `printing::put_decimal` meets its contract. The measure is the number, which falls as it is divided by ten.
+use native.Mathlib.Omega.{arith}
+use borrow.Author.Needs.{needs}
+use Rattle.printing.specs.Text.{digit}
+use Rattle.printing.specs.Decimal.{decimal-one, decimal-more}
+use Rattle.printing.proofs.Chain.{chain, room-first, room-next}
 use Prim.Native.Nat.{ℕ, _<_}
 use borrow.Fn.Kinds.{In}
 use borrow.Fn.PlainCycle.{Measures, is, falls, and}
@@ -9,7 +15,7 @@ use Rattle.printing.proofs.+put_decimal.{statement}
 use Rattle.printing.proofs.+put_decimal.Tie.{close}
 
 abbrev μ-put-decimal : Measures 1 put-decimal-kinds.ps ℕ
-μ-put-decimal κs a = ?
+μ-put-decimal κs a = a .0
 
 abbrev put-decimal-at : ℕ → In 1 put-decimal-kinds.ps
 put-decimal-at t =
@@ -19,104 +25,103 @@ abbrev put-decimal-below : ℕ → In 1 put-decimal-kinds.ps
 put-decimal-below t =
     and 1 put-decimal-kinds.ps (falls 1 put-decimal-kinds.ps _<_ μ-put-decimal t) put-decimal.Pre
 
--- src/lib.rt:41:18
 put-decimal-cast-put : (t : ℕ) → put-decimal-lts.Need-cast-put (
   put-reads.Asked,
   put-reads.Learnt,
   put-decimal-below t,
   put-decimal.Post,
 ) (put-decimal-at t) put-decimal.Post
-put-decimal-cast-put t c = ?
+put-decimal-cast-put t c = omega arith
 
--- src/lib.rt:41:13
 put-decimal-add-put : (t : ℕ) → put-decimal-lts.Need-add-put (
   put-reads.Asked,
   put-reads.Learnt,
   put-decimal-below t,
   put-decimal.Post,
 ) (put-decimal-at t) put-decimal.Post
-put-decimal-add-put t c = ?
+put-decimal-add-put t c = omega arith
 
--- src/lib.rt:41:9
 put-decimal-put-requires : (t : ℕ) → put-decimal-lts.Need-put-requires (
   put-reads.Asked,
   put-reads.Learnt,
   put-decimal-below t,
   put-decimal.Post,
 ) (put-decimal-at t) put-decimal.Post
-put-decimal-put-requires t c κs = ?
+unfolding digit
+put-decimal-put-requires t c κs =
+    rw (decimal-one (c .before .before .before .args .n) (c .before .if1 .taken)) at (c .before .before .before .pre .1)
 
--- src/lib.rt:43:13
 put-decimal-put-decimal-requires : (t : ℕ) → put-decimal-lts.Need-put-decimal-requires (
   put-reads.Asked,
   put-reads.Learnt,
   put-decimal-below t,
   put-decimal.Post,
 ) (put-decimal-at t) put-decimal.Post
-put-decimal-put-decimal-requires t c κs = ?
+put-decimal-put-decimal-requires t c κs =
+    (omega arith, room-first _ _ (rw (decimal-more (c .before .before .before .args .n) (c .before .if1 .left)) at (c .before .before .before .pre .1)))
 
--- src/lib.rt:44:18
 put-decimal-cast-put-2 : (t : ℕ) → put-decimal-lts.Need-cast-put-2 (
   put-reads.Asked,
   put-reads.Learnt,
   put-decimal-below t,
   put-decimal.Post,
 ) (put-decimal-at t) put-decimal.Post
-put-decimal-cast-put-2 t c = ?
+put-decimal-cast-put-2 t c = omega arith
 
--- src/lib.rt:44:13
 put-decimal-add-put-2 : (t : ℕ) → put-decimal-lts.Need-add-put-2 (
   put-reads.Asked,
   put-reads.Learnt,
   put-decimal-below t,
   put-decimal.Post,
 ) (put-decimal-at t) put-decimal.Post
-put-decimal-add-put-2 t c = ?
+put-decimal-add-put-2 t c = omega arith
 
--- src/lib.rt:44:9
 put-decimal-put-requires-2 : (t : ℕ) → put-decimal-lts.Need-put-requires-2 (
   put-reads.Asked,
   put-reads.Learnt,
   put-decimal-below t,
   put-decimal.Post,
 ) (put-decimal-at t) put-decimal.Post
-put-decimal-put-requires-2 t c κs = ?
+unfolding digit
+put-decimal-put-requires-2 t c κs =
+    room-next _ _ (rw (decimal-more (c .before .before .before .before .before .before .before .args .n) (c .before .before .before .before .before .if1 .left)) at (c .before .before .before .before .before .before .before .pre .1)) (c .before .before .before .put-decimal .ensures)
 
--- src/lib.rt:36:1
 put-decimal-same-length : (t : ℕ) → put-decimal-lts.Need-same-length (
   put-reads.Asked,
   put-reads.Learnt,
   put-decimal-below t,
   put-decimal.Post,
 ) (put-decimal-at t) put-decimal.Post
-put-decimal-same-length t c = ?
+put-decimal-same-length t c = search needs
 
--- src/lib.rt:36:1
 put-decimal-returns : (t : ℕ) → put-decimal-lts.Need-returns (
   put-reads.Asked,
   put-reads.Learnt,
   put-decimal-below t,
   put-decimal.Post,
 ) (put-decimal-at t) put-decimal.Post
-put-decimal-returns t c = ?
+unfolding digit
+put-decimal-returns t c =
+    rw (decimal-one (c .before .before .before .before .before .before .args .n) (c .before .before .before .before .if1 .taken)) (c .before .before .put .ensures)
 
--- src/lib.rt:36:1
 put-decimal-same-length-2 : (t : ℕ) → put-decimal-lts.Need-same-length-2 (
   put-reads.Asked,
   put-reads.Learnt,
   put-decimal-below t,
   put-decimal.Post,
 ) (put-decimal-at t) put-decimal.Post
-put-decimal-same-length-2 t c = ?
+put-decimal-same-length-2 t c = search needs
 
--- src/lib.rt:36:1
 put-decimal-returns-2 : (t : ℕ) → put-decimal-lts.Need-returns-2 (
   put-reads.Asked,
   put-reads.Learnt,
   put-decimal-below t,
   put-decimal.Post,
 ) (put-decimal-at t) put-decimal.Post
-put-decimal-returns-2 t c = ?
+unfolding digit
+put-decimal-returns-2 t c =
+    rw (decimal-more (c .before .before .before .before .before .before .before .before .before .before .args .n) (c .before .before .before .before .before .before .before .before .if1 .left))
+    (chain (c .before .before .before .before .before .before .put-decimal .ensures) (c .before .before .put2 .ensures))
 
 pub +put-decimal-spec : {M : Type 1} → statement M
 +put-decimal-spec = close μ-put-decimal λ t. put-decimal-lts.spec (

@@ -1,30 +1,24 @@
+-- `printing::magnitude` meets its contract.
 use borrow.Author.Needs.{needs}
+use Rattle.printing.proofs.Signed.{fits64, less-fits, less-as-u64, less-magnitude, as-u64}
 use Rattle.printing.proofs.magnitude.Statement.{statement}
 use Rattle.printing.proofs.magnitude.Tie as tie
-use Rattle.printing.proofs.magnitude.Reads as reads
-use Rattle.printing.proofs.magnitude.Lts as lts
 
--- src/lib.rt:60:14
 cast-result : tie.Need-cast-result
-cast-result c = ?
+cast-result c = fits64 _ (c .before .fits .z)
 
--- src/lib.rt:60:10
 sub-result : tie.Need-sub-result
-sub-result c = ?
+sub-result c = less-fits _ (c .before .fits .z) (c .if1 .taken)
 
--- src/lib.rt:60:9
 cast-result-2 : tie.Need-cast-result-2
-cast-result-2 c = ?
+cast-result-2 c = less-as-u64 _ (c .before .fits .z) (c .if1 .taken)
 
--- src/lib.rt:62:9
 cast-result-3 : tie.Need-cast-result-3
-cast-result-3 c = ?
+cast-result-3 c = as-u64 _ (c .before .fits .z) (c .if1 .left)
 
--- src/lib.rt:56:1
 returns : tie.Need-returns
-returns c = ?
+returns c = less-magnitude _ (c .before .fits .z) (c .if1 .taken)
 
--- src/lib.rt:56:1
 returns-2 : tie.Need-returns-2
 returns-2 c = search needs
 

@@ -1,28 +1,25 @@
+-- `printing::put` meets its contract.
+use mathlib.Core.Path.{sym}
+use native.Mathlib.Omega.{arith}
+use lib.Seq.{set-out}
 use borrow.Author.Needs.{needs}
 use Rattle.printing.proofs.put.Statement.{statement}
 use Rattle.printing.proofs.put.Tie as tie
-use Rattle.printing.proofs.put.Reads as reads
-use Rattle.printing.proofs.put.Lts as lts
 
--- src/lib.rt:15:16
 add-next : tie.Need-add-next
 add-next c = search needs
 
--- src/lib.rt:17:9
 slice-write-out : tie.Need-slice-write-out
 slice-write-out c = search needs
 
--- src/lib.rt:11:1
 same-length : tie.Need-same-length
 same-length c = search needs
 
--- src/lib.rt:11:1
 returns : tie.Need-returns
 returns c = search needs
 
--- src/lib.rt:11:1
 returns-2 : tie.Need-returns-2
-returns-2 c = ?
+returns-2 c = record { next = omega arith; bytes = sym (set-out _ (c .before .args .at) (c .before .args .byte) (c .if1 .left)) }
 
 pub put-spec : {M : Type 1} → statement M
 put-spec = tie.close (tie.spec add-next slice-write-out same-length returns returns-2)

@@ -1,46 +1,45 @@
+-- `printing::put_text` meets its contract, byte by byte.
+use Prim.Native.Nat.{ℕ, _-_, _≤_}
+use mathlib.Core.List.{List, [], _∷_, _++_}
+use native.Mathlib.Omega.{arith}
+use lib.ListN.{length, take}
+use Rattle.printing.specs.Shapes.{Put}
+use Rattle.printing.proofs.Chain.{put-nothing, put-length, put-more, room-more, put-all}
 use Rattle.printing.proofs.put_text.Statement.{statement}
 use Rattle.printing.proofs.put_text.Tie as tie
-use Rattle.printing.proofs.put_text.Reads as reads
-use Rattle.printing.proofs.put_text.Lts as lts
-use Rattle.printing.proofs.put.Reads as put-reads
 
 abbrev Inv-loop : tie.InvT-loop
-Inv-loop text out₀ at next₀ i₀ out next i = ?
+Inv-loop text out₀ at next₀ i₀ out next i =
+    (i ≤ length text) × Put (take i text) at out₀ out next
 
 abbrev μ-loop : tie.MeasureT-loop
-μ-loop text out₀ at next₀ i₀ out next i = ?
+μ-loop text out₀ at next₀ i₀ out next i = length text - i
 
--- src/lib.rt:28:5
 loop-holds : tie.Need-loop-holds Inv-loop μ-loop
-loop-holds c = ?
+loop-holds c = (omega arith, put-nothing _ _)
 
--- src/lib.rt:29:25
 shared-slice-read-put : tie.Need-shared-slice-read-put Inv-loop μ-loop
-shared-slice-read-put c = ?
+shared-slice-read-put c = omega arith
 
--- src/lib.rt:29:13
 put-requires : tie.Need-put-requires Inv-loop μ-loop
-put-requires c κs = ?
+put-requires c κs =
+    room-more _ _ (c .before .before .before .before .before .before .pre) (c .before .before .before .loop .inv .1) (c .before .before .loop-test .taken)
 
--- src/lib.rt:31:9
 add-i : tie.Need-add-i Inv-loop μ-loop
-add-i c = ?
+add-i c = omega arith
 
--- src/lib.rt:28:5
 loop-less : tie.Need-loop-less Inv-loop μ-loop
-loop-less c = ?
+loop-less c = omega arith
 
--- src/lib.rt:28:5
 loop-again : tie.Need-loop-again Inv-loop μ-loop
-loop-again c = ?
+loop-again c =
+    (omega arith, put-more _ _ (c .before .before .before .before .before .before .loop .inv .1) (c .before .before .put .ensures) (c .before .before .before .before .before .loop-test .taken))
 
--- src/lib.rt:22:1
 same-length : tie.Need-same-length Inv-loop μ-loop
-same-length c = ?
+same-length c = put-length (c .before .loop .inv .1)
 
--- src/lib.rt:22:1
 returns : tie.Need-returns Inv-loop μ-loop
-returns c = ?
+returns c = put-all _ _ (c .before .loop .inv .1) (c .loop-test .left)
 
 pub put-text-spec : {M : Type 1} → statement M
 put-text-spec =
