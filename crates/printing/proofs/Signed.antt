@@ -28,7 +28,7 @@ not-below : (z : ℤ) → ltZ z (pos 0) ≡ false → T (nonNeg z)
 not-below (pos n) h = tt
 not-below (negsuc n) h = absurd (true≢false h)
 
-magnitude-small : (z : ℤ) → SFits w32 z → natAbs z ≤ 2 ^ 31
+pub magnitude-small : (z : ℤ) → SFits w32 z → natAbs z ≤ 2 ^ 31
 magnitude-small (pos n) f = omega (arith, f .sfits)
 magnitude-small (negsuc n) f = omega (arith, f .sfits)
 
@@ -43,7 +43,7 @@ sign-of-others (pos n) h = refl
 sign-of-others (negsuc n) h = absurd (true≢false h)
 
 module _ (z : ℤ) (f : SFits w32 z) where
-  back32 : read32 z ≡ z
+  pub back32 : read32 z ≡ z
   back32 = toZ-ofZ {w = w32} f
 
   pub fits64 : SFits w64 (read32 z)

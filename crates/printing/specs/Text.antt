@@ -35,8 +35,9 @@ sign (negsuc n) = ascii "-"
 unfoldable pub signedDecimal : ℤ → List ℕ
 signedDecimal z = sign z ++ decimal (natAbs z)
 
-unfoldable pub comma : List ℕ
-comma = ascii ","
+-- a field that another one follows
+unfoldable pub field : ℕ → List ℕ
+field n = decimal n ++ ascii ","
 
 unfoldable pub crlf : List ℕ
 crlf = ascii "\r\n"
@@ -45,9 +46,13 @@ crlf = ascii "\r\n"
 unfoldable pub refusalHeader : List ℕ
 refusalHeader = ascii "refusal,task,margin" ++ crlf
 
--- The header and one record: the refusal's number, the task, the margin.
+-- the refusal's number, the task that it names, the margin
+unfoldable pub refusalRecord : ℕ → ℕ → ℤ → List ℕ
+refusalRecord number task margin = field number ++ field task ++ signedDecimal margin ++ crlf
+
+-- The header and one record.
 unfoldable pub refusalText : ℕ → ℕ → ℤ → List ℕ
-refusalText number task margin = refusalHeader ++ decimal number ++ comma ++ decimal task ++ comma ++ signedDecimal margin ++ crlf
+refusalText number task margin = refusalHeader ++ refusalRecord number task margin
 
 -- ---- a table
 unfoldable pub tableHeader : List ℕ
@@ -55,13 +60,13 @@ tableHeader = ascii "slice,task" ++ crlf
 
 -- a slice's number, then its entry
 unfoldable pub sliceRecord : ℕ → ℕ → List ℕ
-sliceRecord t entry = decimal t ++ comma ++ decimal entry ++ crlf
+sliceRecord t entry = field t ++ decimal entry ++ crlf
 
--- The header, and the records of the first n slices.
+-- the records of the slices before slice n
 unfoldable pub recordsTo : List ℕ → ℕ → List ℕ
-recordsTo table zero = tableHeader
+recordsTo table zero = []
 recordsTo table (suc t) = recordsTo table t ++ sliceRecord t (getD table t 0)
 
 -- The header and a record for each slice.
 unfoldable pub tableText : List ℕ → List ℕ
-tableText table = recordsTo table (length table)
+tableText table = tableHeader ++ recordsTo table (length table)

@@ -1,9 +1,9 @@
 // Records by RFC 4180 into a lent buffer: a refusal, and a table.
-ghost use mathlib.Core.List.{List, [], _∷_};
-ghost use lib.ListN.{take};
+ghost use mathlib.Core.List.{[], _∷_};
+ghost use lib.ListN.{length, take};
 ghost use lib.IntN.{natAbs};
 ghost use mathlib.Core.Path.{_≡_};
-ghost use Rattle.printing.specs.Text.{decimal, sign, signedDecimal, sliceRecord, refusalText, tableText};
+ghost use Rattle.printing.specs.Text.{decimal, field, sign, signedDecimal, refusalRecord, refusalText, sliceRecord, recordsTo, tableText};
 ghost use Rattle.printing.specs.Written.{Written};
 ghost use Rattle.printing.specs.Shapes.{Room, Put};
 
@@ -71,39 +71,67 @@ fn put_signed(z: i32, out: &mut [u8], at: usize) -> usize
     put_decimal(magnitude(z), out, next)
 }
 
-fn put_slice(t: u64, entry: u8, out: &mut [u8], at: usize) -> usize
+// A field that another one follows.
+fn put_field(n: u64, out: &mut [u8], at: usize) -> usize
+    requires { ⌜ Room (field n) at ⌝ }
+    ensures { λ r. ⌜ Put (field n) at (now (out .entry)) (now (out .exit)) r ⌝ }
+{
+    let next = put_decimal(n, out, at);
+    put(b',', out, next)
+}
+
+fn put_refusal(number: u32, task: usize, margin: i32, out: &mut [u8], at: usize) -> usize
+    requires { ⌜ Room (refusalRecord number task margin) at ⌝ }
+    ensures { λ r. ⌜ Put (refusalRecord number task margin) at (now (out .entry)) (now (out .exit)) r ⌝ }
+{
+    let second = put_field(number as u64, out, at);
+    let third = put_field(task as u64, out, second);
+    let end = put_signed(margin, out, third);
+    put_text(b"\r\n", out, end)
+}
+
+fn put_slice(t: usize, entry: u8, out: &mut [u8], at: usize) -> usize
     requires { ⌜ Room (sliceRecord t entry) at ⌝ }
     ensures { λ r. ⌜ Put (sliceRecord t entry) at (now (out .entry)) (now (out .exit)) r ⌝ }
 {
-    let number = put_decimal(t, out, at);
-    let comma = put(b',', out, number);
-    let field = put_decimal(entry as u64, out, comma);
-    put_text(b"\r\n", out, field)
+    let second = put_field(t as u64, out, at);
+    let end = put_decimal(entry as u64, out, second);
+    put_text(b"\r\n", out, end)
 }
 
-// A refusal: the header, and one record with its number, its task and its margin.
-pub fn write_refusal(number: u32, task: usize, margin: i32, out: &mut [u8]) -> usize
-    ensures { λ r. ⌜ Written (refusalText number task margin) (now (out .entry)) (now (out .exit)) r ⌝ }
+// A record for each slice of a table, numbered from 0.
+fn put_slices(table: &[u8], out: &mut [u8], at: usize) -> usize
+    requires { ⌜ Room (recordsTo (now table) (length (now table))) at ⌝ }
+    ensures { λ r. ⌜ Put (recordsTo (now (table .entry)) (length (now (table .entry)))) at (now (out .entry)) (now (out .exit)) r ⌝ }
 {
-    let header = put_text(b"refusal,task,margin\r\n", out, 0);
-    let first = put_decimal(number as u64, out, header);
-    let comma = put(b',', out, first);
-    let second = put_decimal(task as u64, out, comma);
-    let comma2 = put(b',', out, second);
-    let third = put_signed(margin, out, comma2);
-    put_text(b"\r\n", out, third)
-}
-
-// A table: the header, and a record for each slice of the cycle, as far as the table reaches.
-pub fn write_table(table: &[u8], cycle: u32, out: &mut [u8]) -> usize
-    ensures { λ r. ⌜ Written (tableText (take cycle (now (table .entry)))) (now (out .entry)) (now (out .exit)) r ⌝ }
-{
-    let mut next = put_text(b"slice,task\r\n", out, 0);
+    let mut next = at;
     let mut t = 0;
-    while t < cycle as usize && t < table.len() {
-        let after = put_slice(t as u64, table[t], out, next);
+    while t < table.len() {
+        let after = put_slice(t, table[t], out, next);
         next = after;
         t += 1;
     }
     next
+}
+
+// A refusal, as much of it as there is room for: the header, and one record. Answers the length of the whole text.
+pub fn write_refusal(number: u32, task: usize, margin: i32, out: &mut [u8]) -> usize
+    ensures { λ r. ⌜ Written (refusalText number task margin) (now (out .entry)) (now (out .exit)) r ⌝ }
+{
+    let next = put_text(b"refusal,task,margin\r\n", out, 0);
+    put_refusal(number, task, margin, out, next)
+}
+
+// A table, as much of it as there is room for: the header, and a record for each slice of the cycle, as far as the table
+// reaches. Answers the length of the whole text.
+pub fn write_table(table: &[u8], cycle: u32, out: &mut [u8]) -> usize
+    ensures { λ r. ⌜ Written (tableText (take cycle (now (table .entry)))) (now (out .entry)) (now (out .exit)) r ⌝ }
+{
+    let next = put_text(b"slice,task\r\n", out, 0);
+    let count = cycle as usize;
+    if count < table.len() {
+        put_slices(&table[..count], out, next)
+    } else {
+        put_slices(table, out, next)
+    }
 }

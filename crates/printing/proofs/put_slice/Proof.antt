@@ -1,48 +1,33 @@
+-- `printing::put_slice` meets its contract.
 use borrow.Author.Needs.{needs}
+use Rattle.printing.specs.Text.{ascii, crlf, sliceRecord}
+use Rattle.printing.proofs.Chain.{chain, room-first, room-next}
 use Rattle.printing.proofs.put_slice.Statement.{statement}
 use Rattle.printing.proofs.put_slice.Tie as tie
-use Rattle.printing.proofs.put_slice.Reads as reads
-use Rattle.printing.proofs.put_slice.Lts as lts
-use Rattle.printing.proofs.put.Reads as put-reads
-use Rattle.printing.proofs.put_decimal.Reads as put-decimal-reads
-use Rattle.printing.proofs.put_text.Reads as put-text-reads
 
--- src/lib.rt:78:9
+put-field-requires : tie.Need-put-field-requires
+unfolding sliceRecord
+put-field-requires c κs = let both = room-first _ _ (c .before .before .pre) in
+    room-first _ _ both
+
 put-decimal-requires : tie.Need-put-decimal-requires
-put-decimal-requires c κs = ?
+unfolding sliceRecord
+put-decimal-requires c κs = let both = room-first _ _ (c .before .before .before .before .before .before .pre) in
+    room-next _ _ both (c .before .before .before .put-field .ensures)
 
--- src/lib.rt:79:9
-put-requires : tie.Need-put-requires
-put-requires c κs = ?
-
--- src/lib.rt:80:9
-put-decimal-requires-2 : tie.Need-put-decimal-requires-2
-put-decimal-requires-2 c κs = ?
-
--- src/lib.rt:81:14
 slice-aggregate-put-text : tie.Need-slice-aggregate-put-text
 slice-aggregate-put-text c = search needs
 
--- src/lib.rt:81:5
 put-text-requires : tie.Need-put-text-requires
-put-text-requires c κs = ?
+unfolding sliceRecord crlf ascii
+put-text-requires c κs = room-next _ _ (c .before .before .before .before .before .before .before .before .before .before .before .pre) (chain (c .before .before .before .before .before .before .before .before .put-field .ensures) (c .before .before .before .before .put-decimal .ensures))
 
--- src/lib.rt:74:1
 same-length : tie.Need-same-length
 same-length c = search needs
 
--- src/lib.rt:74:1
 returns : tie.Need-returns
-returns c = ?
+unfolding sliceRecord crlf ascii
+returns c = chain (chain (c .before .before .before .before .before .before .before .before .before .before .before .put-field .ensures) (c .before .before .before .before .before .before .before .put-decimal .ensures)) (c .before .before .put-text .ensures)
 
 pub put-slice-spec : {M : Type 1} → statement M
-put-slice-spec =
-    tie.close
-    (tie.spec
-    put-decimal-requires
-    put-requires
-    put-decimal-requires-2
-    slice-aggregate-put-text
-    put-text-requires
-    same-length
-    returns)
+put-slice-spec = tie.close (tie.spec put-field-requires put-decimal-requires slice-aggregate-put-text put-text-requires same-length returns)
