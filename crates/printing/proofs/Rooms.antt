@@ -5,7 +5,8 @@ use mathlib.Core.Logic.{⊎-elim}
 use Prim.Native.Nat.{ℕ, zero, suc, _+_, _*_, _^_, _≤_, _<_}
 use native.Mathlib.Omega.{arith}
 use lib.IntN.{ℤ, pos, negsuc, natAbs}
-use lib.ListN.{length, getD, length-append}
+use lib.ListN.{length, getD, take, length-append}
+use lib.Seq.{length-take-le, getD-take}
 use mir.Syntax.{w32, w64}
 use mir.Val.{Fits, SFits}
 use Rattle.basis.specs.Choose.{eq-or-ne}
@@ -32,14 +33,15 @@ signed-length z f =
 refusal-length : (number task : ℕ) (margin : ℤ) → Fits w32 number → Fits w64 task → SFits w32 margin → length (refusalRecord number task margin) ≤ 45
 unfolding refusalRecord crlf ascii
 refusal-length number task margin fn ft fm =
-    omega
-    (arith,
-    length-append (field number ++ field task ++ signedDecimal margin) crlf,
-    length-append (field number ++ field task) (signedDecimal margin),
-    length-append (field number) (field task),
-    field-length 9 number (omega (arith, fn .fits)),
-    field-length 19 task (omega (arith, ft .fits)),
-    signed-length margin fm)
+    omega (
+      arith,
+      length-append (field number ++ field task ++ signedDecimal margin) crlf,
+      length-append (field number ++ field task) (signedDecimal margin),
+      length-append (field number) (field task),
+      field-length 9 number (omega (arith, fn .fits)),
+      field-length 19 task (omega (arith, ft .fits)),
+      signed-length margin fm,
+    )
 
 pub refusal-room : (number task : ℕ) (margin : ℤ) → Fits w32 number → Fits w64 task → SFits w32 margin → {old mid : List ℕ} {r : ℕ} → Put refusalHeader 0 old mid r → Room (refusalRecord number task margin) r
 unfolding refusalHeader crlf ascii
@@ -49,12 +51,13 @@ refusal-room number task margin fn ft fm p = record { room = omega (arith, p .ne
 slice-length : (t entry : ℕ) → t < 2 ^ 32 → entry < 256 → length (sliceRecord t entry) ≤ 16
 unfolding sliceRecord crlf ascii
 slice-length t entry lt le =
-    omega
-    (arith,
-    length-append (field t ++ decimal entry) crlf,
-    length-append (field t) (decimal entry),
-    field-length 9 t (omega arith),
-    decimal-length 2 entry (omega arith))
+    omega (
+      arith,
+      length-append (field t ++ decimal entry) crlf,
+      length-append (field t) (decimal entry),
+      field-length 9 t (omega arith),
+      decimal-length 2 entry (omega arith),
+    )
 
 module _ (table : List ℕ) where
   records-next : (t : ℕ) → length (recordsTo table (suc t)) ≡ length (recordsTo table t) + length (sliceRecord t (getD table t 0))
@@ -82,3 +85,9 @@ module _ (table : List ℕ) where
   pub table-room : length table ≤ 2 ^ 32 → ((i : ℕ) → i < length table → getD table i 0 < 256) → {old mid : List ℕ} {r : ℕ} → Put tableHeader 0 old mid r → Room (recordsTo table (length table)) r
   unfolding tableHeader crlf ascii
   table-room few bytes p = record { room = omega (arith, p .next, records-length (length table) few bytes) }
+
+-- the same of a table's first entries
+pub cycle-room : (table : List ℕ) (cycle : ℕ) → cycle ≤ 2 ^ 32 → ((i : ℕ) → getD table i 0 < 256) → cycle ≤ length table → {old mid : List ℕ} {r : ℕ} → Put tableHeader 0 old mid r → Room (recordsTo (take cycle table) (length (take cycle table))) r
+cycle-room table cycle few bytes l =
+    let long = length-take-le cycle table l in
+    table-room (take cycle table) (omega arith) (λ i li. rw (getD-take cycle table i 0 (omega arith)) (bytes i))

@@ -76,10 +76,11 @@ read-back : (n : ℕ) → valueOf (decimal n) ≡ n
 unfolding valueOf readOn digit
 read-back n = by-digits (λ m. readOn 0 (decimal m) ≡ m) one more (suc n) n (omega arith)
   where
-  one : (m : ℕ) → m < 10 → readOn 0 (decimal m) ≡ m
-  one m l = rw (decimal-one m l) (omega arith)
-  more : (m : ℕ) → 10 ≤ m → readOn 0 (decimal (m / 10)) ≡ m / 10 → readOn 0 (decimal m) ≡ m
-  more m l h = rw (decimal-more m l, read-append 0 (decimal (m / 10)) (digit (m % 10) ∷ []), h) (omega arith)
+    one : (m : ℕ) → m < 10 → readOn 0 (decimal m) ≡ m
+    one m l = rw (decimal-one m l) (omega arith)
+
+    more : (m : ℕ) → 10 ≤ m → readOn 0 (decimal (m / 10)) ≡ m / 10 → readOn 0 (decimal m) ≡ m
+    more m l h = rw (decimal-more m l, read-append 0 (decimal (m / 10)) (digit (m % 10) ∷ []), h) (omega arith)
 
 length-more : (n : ℕ) → 10 ≤ n → length (decimal n) ≡ length (decimal (n / 10)) + 1
 length-more n l = ap length (decimal-more n l) ∙ length-append (decimal (n / 10)) (digit (n % 10) ∷ [])
@@ -94,27 +95,29 @@ not-empty n =
 all-digits : (n i : ℕ) → i < length (decimal n) → IsDigit (getD (decimal n) i 0)
 all-digits n = by-digits (λ m. (i : ℕ) → i < length (decimal m) → IsDigit (getD (decimal m) i 0)) one more (suc n) n (omega arith)
   where
-  one : (m : ℕ) → m < 10 → (i : ℕ) → i < length (decimal m) → IsDigit (getD (decimal m) i 0)
-  one m l i li =
-      let e : i ≡ 0 = omega (arith, length-one m l) in
-      rw (e, decimal-one m l) (digit-is m l)
-  more : (m : ℕ) → 10 ≤ m → ((i : ℕ) → i < length (decimal (m / 10)) → IsDigit (getD (decimal (m / 10)) i 0)) → (i : ℕ) → i < length (decimal m) → IsDigit (getD (decimal m) i 0)
-  more m l h i li =
-      rw (decimal-more m l)
-      (⊎-elim
-      (λ (b : i < length (decimal (m / 10))). rw (List·getD-append (decimal (m / 10)) (digit (m % 10) ∷ []) 0 i b) (h i b))
-      (λ (e : i ≡ length (decimal (m / 10))). rw (e, getD-append-seam (decimal (m / 10)) (digit (m % 10)) [] 0) (digit-is (m % 10) (omega arith)))
-      (below-suc i (length (decimal (m / 10))) (omega (arith, length-more m l))))
+    one : (m : ℕ) → m < 10 → (i : ℕ) → i < length (decimal m) → IsDigit (getD (decimal m) i 0)
+    one m l i li =
+        let e : i ≡ 0 = omega (arith, length-one m l) in
+        rw (e, decimal-one m l) (digit-is m l)
+
+    more : (m : ℕ) → 10 ≤ m → ((i : ℕ) → i < length (decimal (m / 10)) → IsDigit (getD (decimal (m / 10)) i 0)) → (i : ℕ) → i < length (decimal m) → IsDigit (getD (decimal m) i 0)
+    more m l h i li =
+        rw (decimal-more m l)
+        (⊎-elim
+        (λ (b : i < length (decimal (m / 10))). rw (List·getD-append (decimal (m / 10)) (digit (m % 10) ∷ []) 0 i b) (h i b))
+        (λ (e : i ≡ length (decimal (m / 10))). rw (e, getD-append-seam (decimal (m / 10)) (digit (m % 10)) [] 0) (digit-is (m % 10) (omega arith)))
+        (below-suc i (length (decimal (m / 10))) (omega (arith, length-more m l))))
 
 first-digit : (n : ℕ) → 0 < n → 48 < getD (decimal n) 0 0
 unfolding digit
 first-digit n = by-digits (λ m. 0 < m → 48 < getD (decimal m) 0 0) one more (suc n) n (omega arith)
   where
-  one : (m : ℕ) → m < 10 → 0 < m → 48 < getD (decimal m) 0 0
-  one m l p = rw (decimal-one m l) (omega arith)
-  more : (m : ℕ) → 10 ≤ m → (0 < m / 10 → 48 < getD (decimal (m / 10)) 0 0) → 0 < m → 48 < getD (decimal m) 0 0
-  more m l h p =
-      rw (decimal-more m l, List·getD-append (decimal (m / 10)) (digit (m % 10) ∷ []) 0 0 (not-empty (m / 10))) (h (omega arith))
+    one : (m : ℕ) → m < 10 → 0 < m → 48 < getD (decimal m) 0 0
+    one m l p = rw (decimal-one m l) (omega arith)
+
+    more : (m : ℕ) → 10 ≤ m → (0 < m / 10 → 48 < getD (decimal (m / 10)) 0 0) → 0 < m → 48 < getD (decimal m) 0 0
+    more m l h p =
+        rw (decimal-more m l, List·getD-append (decimal (m / 10)) (digit (m % 10) ∷ []) 0 0 (not-empty (m / 10))) (h (omega arith))
 
 -- ---- the theorem
 pub decimal-right : (n : ℕ) → IsDecimal n (decimal n)

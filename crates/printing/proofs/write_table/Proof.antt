@@ -1,57 +1,44 @@
+-- `printing::write_table` meets its contract.
+use mathlib.Core.Path.{sym}
+use native.Mathlib.Omega.{arith}
+use lib.Seq.{length-take-le, take-all}
 use borrow.Author.Needs.{needs}
+use Rattle.printing.specs.Text.{ascii, crlf, tableHeader, tableText}
+use Rattle.printing.proofs.Chain.{chain, put-whole}
+use Rattle.printing.proofs.Rooms.{table-room, cycle-room}
 use Rattle.printing.proofs.write_table.Statement.{statement}
 use Rattle.printing.proofs.write_table.Tie as tie
-use Rattle.printing.proofs.write_table.Reads as reads
-use Rattle.printing.proofs.write_table.Lts as lts
-use Rattle.printing.proofs.put_slices.Reads as put-slices-reads
-use Rattle.printing.proofs.put_text.Reads as put-text-reads
 
--- src/lib.rt:130:25
 slice-aggregate-put-text : tie.Need-slice-aggregate-put-text
 slice-aggregate-put-text c = search needs
 
--- src/lib.rt:130:9
 put-text-requires : tie.Need-put-text-requires
 put-text-requires c κs = search needs
 
--- src/lib.rt:133:20
 slice-aggregate-put-slices : tie.Need-slice-aggregate-put-slices
-slice-aggregate-put-slices c = ?
+slice-aggregate-put-slices c = sym (length-take-le _ _ (omega arith))
 
--- src/lib.rt:133:9
 put-slices-requires : tie.Need-put-slices-requires
-put-slices-requires c κs = ?
+unfolding tableHeader crlf ascii
+put-slices-requires c κs = cycle-room _ (c .before .before .before .before .before .before .before .before .before .before .args .cycle) (omega arith) (λ i. omega (arith, c .before .before .before .before .before .before .before .before .before .shared-slice-known .given i)) (omega arith) (c .before .before .before .before .before .put-text .ensures)
 
--- src/lib.rt:135:9
 put-slices-requires-2 : tie.Need-put-slices-requires-2
-put-slices-requires-2 c κs = ?
+unfolding tableHeader crlf ascii
+put-slices-requires-2 c κs = table-room _ (omega arith) (λ i l. omega (arith, c .before .before .before .before .before .before .before .before .shared-slice-known .given i)) (c .before .before .before .before .put-text .ensures)
 
--- src/lib.rt:127:1
 same-length : tie.Need-same-length
 same-length c = search needs
 
--- src/lib.rt:127:1
 returns : tie.Need-returns
-returns c = ?
+unfolding tableText tableHeader crlf ascii
+returns c = put-whole (chain (c .before .before .before .before .before .before .before .before .put-text .ensures) (c .before .before .put-slices .ensures))
 
--- src/lib.rt:127:1
 same-length-2 : tie.Need-same-length-2
 same-length-2 c = search needs
 
--- src/lib.rt:127:1
 returns-2 : tie.Need-returns-2
-returns-2 c = ?
+unfolding tableText tableHeader crlf ascii
+returns-2 c = rw (take-all _ _ (c .before .before .before .before .if1 .left)) (put-whole (chain (c .before .before .before .before .before .before .before .put-text .ensures) (c .before .before .put-slices2 .ensures)))
 
 pub write-table-spec : {M : Type 1} → statement M
-write-table-spec =
-    tie.close
-    (tie.spec
-    slice-aggregate-put-text
-    put-text-requires
-    slice-aggregate-put-slices
-    put-slices-requires
-    put-slices-requires-2
-    same-length
-    returns
-    same-length-2
-    returns-2)
+write-table-spec = tie.close (tie.spec slice-aggregate-put-text put-text-requires slice-aggregate-put-slices put-slices-requires put-slices-requires-2 same-length returns same-length-2 returns-2)
