@@ -1,6 +1,7 @@
--- Texts that the program prints, and what writing one comes to.
+-- Texts that the program prints, what writing one comes to, and what follows from the definitions.
 pub mod Text
 pub mod Written
-pub mod Shapes
 pub mod Decimal
+pub mod Lengths
 pub mod Cases
+pub mod Shapes
