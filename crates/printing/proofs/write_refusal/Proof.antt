@@ -1,0 +1,28 @@
+-- `printing::write_refusal` meets its contract.
+use borrow.Author.Needs.{needs}
+use Rattle.printing.specs.Text.{ascii, crlf, refusalHeader, refusalText}
+use Rattle.printing.proofs.Chain.{chain, put-whole}
+use Rattle.printing.proofs.Rooms.{refusal-room}
+use Rattle.printing.proofs.Signed.{back32}
+use Rattle.printing.proofs.write_refusal.Statement.{statement}
+use Rattle.printing.proofs.write_refusal.Tie as tie
+
+slice-aggregate-put-text : tie.Need-slice-aggregate-put-text
+slice-aggregate-put-text c = search needs
+
+put-text-requires : tie.Need-put-text-requires
+put-text-requires c κs = search needs
+
+put-refusal-requires : tie.Need-put-refusal-requires
+unfolding refusalHeader crlf ascii
+put-refusal-requires c κs = rw (back32 _ (c .before .before .before .before .before .before .before .fits .margin)) (refusal-room _ _ _ (c .before .before .before .before .before .before .before .fits .number) (c .before .before .before .before .before .before .before .fits .task) (c .before .before .before .before .before .before .before .fits .margin) (c .before .before .before .put-text .ensures))
+
+same-length : tie.Need-same-length
+same-length c = search needs
+
+returns : tie.Need-returns
+unfolding refusalText refusalHeader crlf ascii
+returns c = put-whole (chain (c .before .before .before .before .before .before .put-text .ensures) (rw (back32 _ (c .before .before .before .before .before .before .before .before .before .before .fits .margin)) at (c .before .before .put-refusal .ensures)))
+
+pub write-refusal-spec : {M : Type 1} → statement M
+write-refusal-spec = tie.close (tie.spec slice-aggregate-put-text put-text-requires put-refusal-requires same-length returns)
