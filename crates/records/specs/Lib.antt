@@ -1,0 +1,3 @@
+-- The form of the program's input, and that the reader accepts exactly it.
+pub mod Grammar
+pub mod Shapes
