@@ -67,4 +67,4 @@ pub data Rows : List (List ℕ) → List Task → Type 0 where
 -- counted from 1, and the list of no tasks.
 pub data Reads (input : List ℕ) : Parsed → Type 0 where
   good : {lines : List (List ℕ)} {ts : List Task} → Lines input lines → Rows lines ts → Reads input (record { form = Good; list = listOf ts })
-  bad : {before after : List (List ℕ)} {line : List ℕ} {ts : List Task} → Lines input (before ++ line ∷ after) → Rows before ts → ((t : Task) → Row line t → ⊥) → Reads input (record { form = Bad (suc (length before)); list = listOf [] })
+  bad : {ts : List Task} (before : List (List ℕ)) (line : List ℕ) (after : List (List ℕ)) → Lines input (before ++ line ∷ after) → Rows before ts → ((t : Task) → Row line t → ⊥) → Reads input (record { form = Bad (suc (length before)); list = listOf [] })

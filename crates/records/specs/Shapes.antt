@@ -1,11 +1,14 @@
 -- Shaped like the code, for private contracts alone: the line and the answer after one byte more, tied to the grammar in Reading.
-use mathlib.Core.Path.{_≡_}
+use mathlib.Core.Path.{_≡_, sym, _∙_}
+use mathlib.Core.Logic.{⊎-elim}
+use native.Mathlib.Omega.{arith}
+use borrow.Author.Tests.{eq-eqb, ne-eqb, leb-false}
 use mathlib.Core.Bool.{Bool, true, false}
 use mathlib.Core.List.{List, [], _∷_}
-use Prim.Native.Nat.{ℕ, _+_, _-_, _*_}
+use Prim.Native.Nat.{ℕ, _+_, _-_, _*_, _<_}
 use lib.Dec.{eqb, leb, ltb}
 use lib.ListN.{set}
-use Rattle.basis.specs.Choose.{choose}
+use Rattle.basis.specs.Choose.{choose, choose-yes, choose-no, eq-or-ne}
 use Rattle.tasks.specs.declared.Task.{Task}
 use Rattle.tasks.specs.declared.TaskList.{TaskList}
 use Rattle.tasks.specs.List.{listOf}
@@ -23,6 +26,14 @@ spoilt = record { closed = 3; digits = false; value = 0; period = 0; runtime = 0
 -- ---- a byte within a line
 unfoldable pub full : Bool → ℕ → Bool
 full digits value = choose (eqb value 0) digits (leb 100000000 value)
+
+pub not-full : (d : Bool) (v : ℕ) → full d v ≡ false → v < 100000000
+unfolding full
+not-full d v h =
+    ⊎-elim
+    (λ (z : v ≡ 0). omega arith)
+    (λ (nz : v ≡ 0 → ⊥). leb-false 100000000 v (sym (choose-no _ _ _ (ne-eqb v 0 nz)) ∙ h))
+    (eq-or-ne v 0)
 
 unfoldable pub withDigit : Line → ℕ → Line
 withDigit s d =
@@ -67,6 +78,14 @@ closeAs (Bad n) p s = p
 
 unfoldable pub closeLine : Parsed → Line → Parsed
 closeLine p s = closeAs (p .form) p s
+
+pub good-closes : (p : Parsed) (s : Line) → p .form ≡ Good → closeLine p s ≡ closeGood (p .list) s
+unfolding closeLine closeAs
+good-closes p s e = rw e
+
+pub bad-stays : (p : Parsed) (s : Line) (n : ℕ) → p .form ≡ Bad n → closeLine p s ≡ p
+unfolding closeLine closeAs
+bad-stays p s n e = rw e
 
 -- the answer after whole lines
 unfoldable pub readLines : Parsed → List (List ℕ) → Parsed

@@ -107,6 +107,7 @@ fn with_comma(line: Line) -> Line
                 runtime: value,
             };
         }
+        return spoilt_line();
     }
     spoilt_line()
 }
@@ -233,10 +234,10 @@ fn with_plain(line: Line, byte: u8) -> Line
     }
 }
 
-fn line_after(line: Line, after_cr: bool, byte: u8) -> Line
-    ensures { λ r. ⌜ r ≡ lineAfter line after_cr byte ⌝ }
+fn line_after(line: Line, pending: bool, byte: u8) -> Line
+    ensures { λ r. ⌜ r ≡ lineAfter line pending byte ⌝ }
 {
-    if after_cr {
+    if pending {
         if byte == 10 {
             return fresh_line();
         }
@@ -245,24 +246,25 @@ fn line_after(line: Line, after_cr: bool, byte: u8) -> Line
     with_plain(line, byte)
 }
 
-fn read_after(read: Parsed, line: Line, after_cr: bool, byte: u8) -> Parsed
+fn read_after(read: Parsed, line: Line, pending: bool, byte: u8) -> Parsed
     requires { ⌜ read .list .count < 18446744073709551615 ⌝ }
-    ensures { λ r. ⌜ r ≡ readAfter read line after_cr byte ⌝ }
+    ensures { λ r. ⌜ r ≡ readAfter read line pending byte ⌝ }
 {
-    if after_cr {
+    if pending {
         if byte == 10 {
             return close_line(read, line);
         }
+        return read;
     }
     read
 }
 
 // What follows the last CRLF is one line more, unless it is nothing.
-fn at_end(read: Parsed, line: Line, after_cr: bool) -> Parsed
+fn at_end(read: Parsed, line: Line, pending: bool) -> Parsed
     requires { ⌜ read .list .count < 18446744073709551615 ⌝ }
-    ensures { λ r. ⌜ r ≡ atEnd read line after_cr ⌝ }
+    ensures { λ r. ⌜ r ≡ atEnd read line pending ⌝ }
 {
-    if after_cr {
+    if pending {
         return close_line(read, spoilt_line());
     }
     if is_begun(line) {
@@ -280,16 +282,16 @@ pub fn read_list(input: &[u8]) -> Parsed
         list: none,
     };
     let mut line = fresh_line();
-    let mut after_cr = false;
+    let mut pending = false;
     let mut i = 0;
     while i < input.len() {
         let byte = input[i];
-        let next_read = read_after(read, line, after_cr, byte);
-        let next_line = line_after(line, after_cr, byte);
+        let next_read = read_after(read, line, pending, byte);
+        let next_line = line_after(line, pending, byte);
         read = next_read;
         line = next_line;
-        after_cr = byte == 13;
+        pending = byte == 13;
         i += 1;
     }
-    at_end(read, line, after_cr)
+    at_end(read, line, pending)
 }

@@ -1,48 +1,45 @@
+-- `records::with_byte` meets its contract.
+use Rattle.basis.specs.Choose.{cases, no-so}
+use borrow.Author.Tests.{ne-eqb, le-ltb}
+use Rattle.records.specs.Shapes.{withByte}
 use borrow.Author.Needs.{needs}
 use Rattle.records.proofs.with_byte.Statement.{statement}
 use Rattle.records.proofs.with_byte.Tie as tie
-use Rattle.records.proofs.with_byte.Reads as reads
-use Rattle.records.proofs.with_byte.Lts as lts
-use Rattle.records.proofs.spoilt_line.Reads as spoilt-line-reads
-use Rattle.records.proofs.wide.Reads as wide-reads
-use Rattle.records.proofs.with_comma.Reads as with-comma-reads
-use Rattle.records.proofs.with_digit.Reads as with-digit-reads
 
--- src/lib.rt:125:9
 with-comma-requires : tie.Need-with-comma-requires
 with-comma-requires c κs = search needs
 
--- src/lib.rt:125:9
 returns : tie.Need-returns
-returns c = ?
+unfolding withByte
+returns c = search cases depth 12
 
--- src/lib.rt:128:9
 spoilt-line-requires : tie.Need-spoilt-line-requires
 spoilt-line-requires c κs = search needs
 
--- src/lib.rt:128:9
 returns-2 : tie.Need-returns-2
-returns-2 c = ?
+unfolding withByte
+returns-2 c = search cases depth 12
 
--- src/lib.rt:131:9
 spoilt-line-requires-2 : tie.Need-spoilt-line-requires-2
 spoilt-line-requires-2 c κs = search needs
 
--- src/lib.rt:131:9
 returns-3 : tie.Need-returns-3
-returns-3 c = ?
+unfolding withByte
+returns-3 c = search cases depth 12
 
--- src/lib.rt:133:22
 wide-requires : tie.Need-wide-requires
 wide-requires c κs = search needs
 
--- src/lib.rt:133:5
 with-digit-requires : tie.Need-with-digit-requires
 with-digit-requires c κs = search needs
 
--- src/lib.rt:121:1
 returns-4 : tie.Need-returns-4
-returns-4 c = ?
+unfolding withByte
+returns-4 c =
+    let b = c .before .before .before .before .before .args .byte in
+    no-so _ _ _ _ (ne-eqb b 44 (c .before .before .before .before .if1 .left))
+    (no-so _ _ _ _ (le-ltb b 48 (c .before .before .before .if2 .left))
+    (no-so _ _ _ _ (le-ltb 57 b (c .before .before .if3 .left)) (cc)))
 
 pub with-byte-spec : {M : Type 1} → statement M
 with-byte-spec =

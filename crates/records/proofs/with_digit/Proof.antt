@@ -1,34 +1,31 @@
+-- `records::with_digit` meets its contract.
+use mathlib.Core.Path.{refl, sym, _∙_}
+use native.Mathlib.Omega.{arith}
+use Rattle.basis.specs.Choose.{yes-so, no-so}
+use Rattle.records.specs.Shapes.{withDigit, not-full}
 use borrow.Author.Needs.{needs}
 use Rattle.records.proofs.with_digit.Statement.{statement}
 use Rattle.records.proofs.with_digit.Tie as tie
-use Rattle.records.proofs.with_digit.Reads as reads
-use Rattle.records.proofs.with_digit.Lts as lts
-use Rattle.records.proofs.is_full.Reads as is-full-reads
-use Rattle.records.proofs.spoilt_line.Reads as spoilt-line-reads
 
--- src/lib.rt:74:8
 is-full-requires : tie.Need-is-full-requires
 is-full-requires c κs = search needs
 
--- src/lib.rt:75:9
 spoilt-line-requires : tie.Need-spoilt-line-requires
 spoilt-line-requires c κs = search needs
 
--- src/lib.rt:75:9
 returns : tie.Need-returns
-returns c = ?
+unfolding withDigit
+returns c = yes-so _ _ _ _ (sym (c .before .before .is-full .ensures) ∙ c .before .if1 .taken) (c .spoilt-line .ensures)
 
--- src/lib.rt:80:16
 mul-t5 : tie.Need-mul-t5
-mul-t5 c = ?
+mul-t5 c = omega (arith, not-full _ _ (sym (c .before .is-full .ensures) ∙ c .if1 .left))
 
--- src/lib.rt:80:16
 add-t6 : tie.Need-add-t6
-add-t6 c = ?
+add-t6 c = omega (arith, not-full _ _ (sym (c .before .is-full .ensures) ∙ c .if1 .left))
 
--- src/lib.rt:69:1
 returns-2 : tie.Need-returns-2
-returns-2 c = ?
+unfolding withDigit
+returns-2 c = no-so _ _ _ _ (sym (c .before .is-full .ensures) ∙ c .if1 .left) refl
 
 pub with-digit-spec : {M : Type 1} → statement M
 with-digit-spec =

@@ -1,21 +1,20 @@
+-- `records::with_plain` meets its contract.
+use Rattle.basis.specs.Choose.{cases}
+use Rattle.records.specs.Shapes.{plain}
 use borrow.Author.Needs.{needs}
 use Rattle.records.proofs.with_plain.Statement.{statement}
 use Rattle.records.proofs.with_plain.Tie as tie
-use Rattle.records.proofs.with_plain.Reads as reads
-use Rattle.records.proofs.with_plain.Lts as lts
-use Rattle.records.proofs.with_byte.Reads as with-byte-reads
 
--- src/lib.rt:232:9
 with-byte-requires : tie.Need-with-byte-requires
 with-byte-requires c κs = search needs
 
--- src/lib.rt:226:1
 returns : tie.Need-returns
-returns c = ?
+unfolding plain
+returns c = search cases depth 12
 
--- src/lib.rt:226:1
 returns-2 : tie.Need-returns-2
-returns-2 c = ?
+unfolding plain
+returns-2 c = search cases depth 12
 
 pub with-plain-spec : {M : Type 1} → statement M
 with-plain-spec = tie.close (tie.spec with-byte-requires returns returns-2)
