@@ -1,3 +1,4 @@
 -- The form of the program's input, and that the reader accepts exactly it.
 pub mod Grammar
 pub mod Shapes
+pub mod RowForm

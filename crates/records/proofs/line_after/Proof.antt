@@ -1,5 +1,6 @@
 -- `records::line_after` meets its contract.
-use Rattle.basis.specs.Choose.{cases}
+use Rattle.basis.specs.Choose.{cases, yes-so, no-so}
+use borrow.Author.Tests.{ne-eqb}
 use Rattle.records.specs.Shapes.{lineAfter}
 use borrow.Author.Needs.{needs}
 use Rattle.records.proofs.line_after.Statement.{statement}
@@ -20,7 +21,9 @@ with-plain-requires c κs = search needs
 
 returns-2 : tie.Need-returns-2
 unfolding lineAfter
-returns-2 c = search cases depth 12
+returns-2 c =
+    yes-so _ _ _ _ (c .before .before .before .if1 .taken)
+    (no-so _ _ _ _ (ne-eqb (c .before .before .before .before .args .byte) 10 (c .before .before .if2 .left)) (cc))
 
 with-plain-requires-2 : tie.Need-with-plain-requires-2
 with-plain-requires-2 c κs = search needs
