@@ -2,3 +2,4 @@
 pub mod Grammar
 pub mod Shapes
 pub mod RowForm
+pub mod LineEnds
