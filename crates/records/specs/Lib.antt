@@ -3,3 +3,4 @@ pub mod Grammar
 pub mod Shapes
 pub mod RowForm
 pub mod LineEnds
+pub mod Reading
