@@ -1,4 +1,4 @@
--- That a decimal is right: its digits read back give the number, and there is no leading zero.
+-- That a decimal is right: its digits read back give the number, there is no leading zero, and no other text is so.
 use mathlib.Core.Path.{_≡_, refl, sym, ap, ap₂, _∙_}
 use mathlib.Core.List.{List, [], _∷_, _++_}
 use mathlib.Core.Logic.{⊎-elim}
@@ -191,7 +191,7 @@ only (suc k) n l text (suc m) e h =
 pub decimal-only : (n : ℕ) (text : List ℕ) → IsDecimal n text → text ≡ decimal n
 decimal-only n text h = only (suc n) n (omega arith) text (length text - 1) (omega (arith, h .some)) h
 
--- A number below 10 ^ k has at most k digits, but 0 has one.
+-- A number below 10 ^ k has at most k digits, for k from 1 on; a field below 10 ^ 9 at most 9.
 pub decimal-length : (k n : ℕ) → n < 10 ^ suc k → length (decimal n) ≤ suc k
 decimal-length zero n l = omega (arith, length-one n (omega arith))
 decimal-length (suc k) n l =
