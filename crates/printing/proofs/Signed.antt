@@ -1,7 +1,7 @@
 -- A signed number of 32 bits: its sign, and its magnitude in 64 bits.
-use mathlib.Core.Path.{_≡_, refl, sym, ap, _∙_}
-use mathlib.Core.Bool.{Bool, true, false, true≢false}
-use mathlib.Core.List.{List, [], _∷_}
+use mathlib.Core.Path.{_≡_, refl, ap, _∙_}
+use mathlib.Core.Bool.{true, false, true≢false}
+use mathlib.Core.List.{[], _∷_}
 use Prim.Native.Nat.{_^_, _≤_}
 use native.Mathlib.Omega.{arith}
 use lib.Dec.{T}

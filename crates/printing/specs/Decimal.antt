@@ -1,13 +1,13 @@
--- That a decimal is right: its digits read back give the number, and there is no leading zero.
-use mathlib.Core.Path.{_≡_, refl, sym, ap, _∙_}
+-- That a decimal is right: its digits read back give the number, there is no leading zero, and no other text is so.
+use mathlib.Core.Path.{_≡_, refl, sym, ap, ap₂, _∙_}
 use mathlib.Core.List.{List, [], _∷_, _++_}
 use mathlib.Core.Logic.{⊎-elim}
 use Prim.Native.Nat.{ℕ, zero, suc, _+_, _-_, _*_, _/_, _%_, _^_, _≤_, _<_}
 use native.Mathlib.Omega.{arith}
 use native.Mathlib.Nat.{div-lt-iff-lt-mul}
 use lib.Dec.{ltb}
-use lib.ListN.{length, getD, length-append, List·getD-append}
-use lib.Seq.{getD-append-seam}
+use lib.ListN.{length, getD, take, length-append, List·getD-append}
+use lib.Seq.{getD-append-seam, take-all, take-suc, length-take-le, getD-take}
 use borrow.Author.Tests.{lt-ltb, le-ltb}
 use Rattle.basis.specs.Choose.{choose, choose-yes, choose-no, le-or-lt, below-suc}
 use Rattle.printing.specs.Text.{digit, digitsIn, decimal}
@@ -128,7 +128,70 @@ decimal-right n = record {
   no-leading-zero = λ l. first-digit n (⊎-elim (λ (h : 10 ≤ n). omega arith) (λ (h : n < 10). absurd (omega (arith, length-one n h))) (le-or-lt 10 n));
 }
 
--- A number below 10 ^ k has at most k digits, but 0 has one.
+-- ---- nothing else is one
+read-positive : (n : ℕ) (ds : List ℕ) → 0 < n → 0 < readOn n ds
+unfolding readOn
+read-positive n [] p = p
+read-positive n (d ∷ ds) p = read-positive (n * 10 + (d - 48)) ds (omega arith)
+
+value-positive : (ds : List ℕ) → 0 < length ds → 48 < getD ds 0 0 → 0 < valueOf ds
+unfolding valueOf readOn
+value-positive [] some first = absurd (omega arith)
+value-positive (d ∷ ds) some first = read-positive (0 * 10 + (d - 48)) ds (omega arith)
+
+-- A text is what stands before its last byte, and that byte.
+last-apart : (text : List ℕ) (m : ℕ) → length text ≡ suc m → text ≡ take m text ++ (getD text m 0 ∷ [])
+last-apart text m e = sym (take-all (suc m) text (omega arith)) ∙ take-suc text m 0 (omega arith)
+
+-- So the number is what the front stands for, times ten, and the last digit.
+last-value : (n : ℕ) (text : List ℕ) (m : ℕ) → length text ≡ suc m → IsDecimal n text → valueOf (take m text) * 10 + (getD text m 0 - 48) ≡ n
+unfolding valueOf readOn
+last-value n text m e h =
+    sym (ap (readOn 0) (last-apart text m e) ∙ read-append 0 (take m text) (getD text m 0 ∷ [])) ∙ h .value
+
+last-digit : (n v d : ℕ) → IsDigit d → v * 10 + (d - 48) ≡ n → d ≡ digit (n % 10)
+unfolding digit
+last-digit n v d h e = omega arith
+
+one-byte : (n : ℕ) (text : List ℕ) → length text ≡ 1 → IsDecimal n text → text ≡ decimal n
+unfolding valueOf readOn digit
+one-byte n text e h =
+    let d = h .digits 0 (omega arith) in
+    let v = last-value n text 0 e h in
+    last-apart text 0 e ∙ ap (λ (x : ℕ). x ∷ []) (omega arith) ∙ sym (decimal-one n (omega arith))
+
+front-decimal : (n : ℕ) (text : List ℕ) (m : ℕ) → length text ≡ suc (suc m) → IsDecimal n text → (10 ≤ n) × IsDecimal (n / 10) (take (suc m) text)
+front-decimal n text m e h =
+    let len = length-take-le (suc m) text (omega arith) in
+    let first : 48 < getD (take (suc m) text) 0 0 = rw (getD-take (suc m) text 0 0 (omega arith)) (h .no-leading-zero (omega arith)) in
+    let d = h .digits (suc m) (omega arith) in
+    let v = last-value n text (suc m) e h in
+    let p = value-positive (take (suc m) text) (omega arith) first in (
+      omega arith,
+      record {
+        value = omega arith;
+        some = omega arith;
+        digits = λ i l. rw (getD-take (suc m) text i 0 (omega arith)) (h .digits i (omega arith));
+        no-leading-zero = λ l. first;
+      },
+    )
+
+only : (k n : ℕ) → n < k → (text : List ℕ) (m : ℕ) → length text ≡ suc m → IsDecimal n text → text ≡ decimal n
+only zero n l text m e h = absurd (omega arith)
+only (suc k) n l text zero e h = one-byte n text e h
+only (suc k) n l text (suc m) e h =
+    let front = front-decimal n text m e h in
+    let len = length-take-le (suc m) text (omega arith) in
+    let d = h .digits (suc m) (omega arith) in
+    let v = last-value n text (suc m) e h in
+    last-apart text (suc m) e
+    ∙ ap₂ (λ (ds : List ℕ) (x : ℕ). ds ++ (x ∷ [])) (only k (n / 10) (omega arith) (take (suc m) text) m len (front .1)) (last-digit n (valueOf (take (suc m) text)) (getD text (suc m) 0) d v)
+    ∙ sym (decimal-more n (front .0))
+
+pub decimal-only : (n : ℕ) (text : List ℕ) → IsDecimal n text → text ≡ decimal n
+decimal-only n text h = only (suc n) n (omega arith) text (length text - 1) (omega (arith, h .some)) h
+
+-- A number below 10 ^ k has at most k digits, for k from 1 on; a field below 10 ^ 9 at most 9.
 pub decimal-length : (k n : ℕ) → n < 10 ^ suc k → length (decimal n) ≤ suc k
 decimal-length zero n l = omega (arith, length-one n (omega arith))
 decimal-length (suc k) n l =

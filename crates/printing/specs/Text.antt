@@ -23,7 +23,7 @@ unfoldable pub digitsIn : ℕ → ℕ → List ℕ
 digitsIn zero n = []
 digitsIn (suc turns) n = choose (ltb n 10) (digit n ∷ []) (digitsIn turns (n / 10) ++ (digit (n % 10) ∷ []))
 
--- A number in decimal; n has at most n digits, but 0 has one.
+-- A number in decimal. No number has more digits than one more than itself, so the turns are enough.
 unfoldable pub decimal : ℕ → List ℕ
 decimal n = digitsIn (suc n) n
 

@@ -7,13 +7,15 @@ use Rattle.printing.proofs.put_slice.Tie as tie
 
 put-field-requires : tie.Need-put-field-requires
 unfolding sliceRecord
-put-field-requires c κs = let both = room-first _ _ (c .before .before .pre) in
-    room-first _ _ both
+put-field-requires c κs =
+    let fields = room-first _ _ (c .before .before .pre) in
+    room-first _ _ fields
 
 put-decimal-requires : tie.Need-put-decimal-requires
 unfolding sliceRecord
-put-decimal-requires c κs = let both = room-first _ _ (c .before .before .before .before .before .before .pre) in
-    room-next _ _ both (c .before .before .before .put-field .ensures)
+put-decimal-requires c κs =
+    let fields = room-first _ _ (c .before .before .before .before .before .before .pre) in
+    room-next _ _ fields (c .before .before .before .put-field .ensures)
 
 slice-aggregate-put-text : tie.Need-slice-aggregate-put-text
 slice-aggregate-put-text c = search needs

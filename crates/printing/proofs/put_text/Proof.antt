@@ -1,6 +1,5 @@
 -- `printing::put_text` meets its contract, byte by byte.
-use Prim.Native.Nat.{ℕ, _-_, _≤_}
-use mathlib.Core.List.{List, [], _∷_, _++_}
+use Prim.Native.Nat.{_-_, _≤_}
 use native.Mathlib.Omega.{arith}
 use lib.ListN.{length, take}
 use Rattle.printing.specs.Shapes.{Put}

@@ -15,14 +15,18 @@ put-text-requires c κs = search needs
 
 put-refusal-requires : tie.Need-put-refusal-requires
 unfolding refusalHeader crlf ascii
-put-refusal-requires c κs = rw (back32 _ (c .before .before .before .before .before .before .before .fits .margin)) (refusal-room _ _ _ (c .before .before .before .before .before .before .before .fits .number) (c .before .before .before .before .before .before .before .fits .task) (c .before .before .before .before .before .before .before .fits .margin) (c .before .before .before .put-text .ensures))
+put-refusal-requires c κs =
+    let fits = c .before .before .before .before .before .before .before .fits in
+    rw (back32 _ (fits .margin)) (refusal-room _ _ _ (fits .number) (fits .task) (fits .margin) (c .before .before .before .put-text .ensures))
 
 same-length : tie.Need-same-length
 same-length c = search needs
 
 returns : tie.Need-returns
 unfolding refusalText refusalHeader crlf ascii
-returns c = put-whole (chain (c .before .before .before .before .before .before .put-text .ensures) (rw (back32 _ (c .before .before .before .before .before .before .before .before .before .before .fits .margin)) at (c .before .before .put-refusal .ensures)))
+returns c =
+    let line = rw (back32 _ (c .before .before .before .before .before .before .before .before .before .before .fits .margin)) at (c .before .before .put-refusal .ensures) in
+    put-whole (chain (c .before .before .before .before .before .before .put-text .ensures) line)
 
 pub write-refusal-spec : {M : Type 1} → statement M
 write-refusal-spec = tie.close (tie.spec slice-aggregate-put-text put-text-requires put-refusal-requires same-length returns)

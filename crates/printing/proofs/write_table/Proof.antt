@@ -20,7 +20,9 @@ slice-aggregate-put-slices c = sym (length-take-le _ _ (omega arith))
 
 put-slices-requires : tie.Need-put-slices-requires
 unfolding tableHeader crlf ascii
-put-slices-requires c κs = cycle-room _ (c .before .before .before .before .before .before .before .before .before .before .args .cycle) (omega arith) (λ i. omega (arith, c .before .before .before .before .before .before .before .before .before .shared-slice-known .given i)) (omega arith) (c .before .before .before .before .before .put-text .ensures)
+put-slices-requires c κs =
+    let start = c .before .before .before .before .before .before .before .before .before .before in
+    cycle-room _ (start .args .cycle) (omega arith) (λ i. omega (arith, c .before .before .before .before .before .before .before .before .before .shared-slice-known .given i)) (omega arith) (c .before .before .before .before .before .put-text .ensures)
 
 put-slices-requires-2 : tie.Need-put-slices-requires-2
 unfolding tableHeader crlf ascii
