@@ -5,13 +5,14 @@ use mathlib.Core.Logic.{⊎-elim}
 use Prim.Native.Nat.{ℕ, zero, suc, _^_, _≤_, _<_}
 use native.Mathlib.Omega.{arith}
 use lib.IntN.{ℤ}
-use lib.ListN.{length, getD, take}
-use lib.Seq.{length-take-le, getD-take}
+use lib.ListN.{length, getD, take, length-take}
+use lib.Seq.{length-take-le, getD-take, take-all}
 use mir.Syntax.{w32, w64}
 use mir.Val.{Fits, SFits}
 use Rattle.basis.specs.Choose.{eq-or-ne}
-use Rattle.printing.specs.Text.{ascii, crlf, refusalHeader, refusalRecord, tableHeader, sliceRecord, recordsTo}
-use Rattle.printing.specs.Lengths.{refusal-length, slice-length, records-next, records-length}
+use Rattle.printing.specs.Text.{ascii, crlf, refusalHeader, refusalRecord, refusalText, tableHeader, tableText, sliceRecord, recordsTo}
+use Rattle.printing.specs.Written.{Written}
+use Rattle.printing.specs.Lengths.{refusal-length, refusal-fits, table-fits, slice-length, records-next, records-length}
 use Rattle.printing.specs.Shapes.{Room, Put}
 use Rattle.printing.proofs.Signed.{magnitude-small}
 
@@ -44,3 +45,20 @@ pub cycle-room : (table : List ℕ) (cycle : ℕ) → cycle ≤ 2 ^ 32 → ((i :
 cycle-room table cycle few bytes l =
     let long = length-take-le cycle table l in
     table-room (take cycle table) (omega arith) (λ i li. rw (getD-take cycle table i 0 (omega arith)) (bytes i))
+
+-- ---- what a caller may rely on
+pub refusal-room-enough : (number task : ℕ) (margin : ℤ) → Fits w32 number → Fits w64 task → SFits w32 margin → {old new : List ℕ} {r : ℕ} → Written (refusalText number task margin) old new r → r ≤ 66
+refusal-room-enough number task margin fn ft fm W = omega (arith, W .whole, refusal-fits number task margin (fn .fits) (ft .fits) (magnitude-small margin fm))
+
+pub table-room-enough : (table : List ℕ) (cycle : ℕ) → ((i : ℕ) → getD table i 0 < 256) → {old new : List ℕ} {r : ℕ} → Written (tableText (take cycle table)) old new r → cycle ≤ 4096 → r ≤ 40972
+table-room-enough table cycle bytes W l =
+    omega (
+      arith,
+      W .whole,
+      table-fits (take cycle table) (omega (arith, length-take cycle table))
+          (λ i li. rw (getD-take cycle table i 0 (omega (arith, length-take cycle table))) (bytes i)),
+    )
+
+-- A table that ends before the cycle does is printed whole.
+pub whole-table : (table : List ℕ) (cycle : ℕ) → length table ≤ cycle → {old new : List ℕ} {r : ℕ} → Written (tableText table) old new r → Written (tableText (take cycle table)) old new r
+whole-table table cycle l W = rw (take-all cycle table l) W

@@ -3,6 +3,7 @@ ghost use mathlib.Core.List.{[], _∷_};
 ghost use lib.ListN.{length, take};
 ghost use lib.IntN.{natAbs};
 ghost use mathlib.Core.Path.{_≡_};
+ghost use Prim.Native.Nat.{_≤_};
 ghost use Rattle.printing.specs.Text.{decimal, field, sign, signedDecimal, refusalRecord, refusalText, sliceRecord, recordsTo, tableText};
 ghost use Rattle.printing.specs.Written.{Written};
 ghost use Rattle.printing.specs.Shapes.{Room, Put};
@@ -117,6 +118,7 @@ fn put_slices(table: &[u8], out: &mut [u8], at: usize) -> usize
 // A refusal, as much of it as there is room for: the header, and one record. Answers the length of the whole text.
 pub fn write_refusal(number: u32, task: usize, margin: i32, out: &mut [u8]) -> usize
     ensures { λ r. ⌜ Written (refusalText number task margin) (now (out .entry)) (now (out .exit)) r ⌝ }
+    ensures { λ r. ⌜ r ≤ 66 ⌝ }
 {
     let next = put_text(b"refusal,task,margin\r\n", out, 0);
     put_refusal(number, task, margin, out, next)
@@ -126,6 +128,7 @@ pub fn write_refusal(number: u32, task: usize, margin: i32, out: &mut [u8]) -> u
 // reaches. Answers the length of the whole text.
 pub fn write_table(table: &[u8], cycle: u32, out: &mut [u8]) -> usize
     ensures { λ r. ⌜ Written (tableText (take cycle (now (table .entry)))) (now (out .entry)) (now (out .exit)) r ⌝ }
+    ensures { λ r. ⌜ (cycle ≤ 4096 → r ≤ 40972) ⌝ }
 {
     let next = put_text(b"slice,task\r\n", out, 0);
     let count = cycle as usize;

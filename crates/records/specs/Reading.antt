@@ -39,6 +39,7 @@ begun-after s b =
   where
     Begun : Line → Type 0
     Begun x = begun x ≡ true
+
     spoils : begun spoilt ≡ true
     spoils = choose-no _ _ _ refl
 
@@ -129,6 +130,7 @@ module _ (ts : List Task) (t : Task) where
     where
       sizes : length (set (overwrite (taskAt ts) 16 empty) (length ts) t) ≡ 16
       sizes = length-set (overwrite (taskAt ts) 16 empty) (length ts) t ∙ overwrite-length (taskAt ts) empty 16
+
       other : (i : ℕ) → (i ≡ length ts → ⊥) → taskAt more i ≡ taskAt ts i
       other i ne = ⊎-elim (λ (a : i ≤ length ts). earlier i (omega arith)) (λ (a : length ts < i). later i a) (le-or-lt i (length ts))
 

@@ -137,21 +137,13 @@ fn with_byte(line: Line, byte: u8) -> Line
 fn is_complete(line: Line) -> bool
     ensures { λ r. ⌜ r ≡ complete line ⌝ }
 {
-    if line.closed == 2 {
-        line.digits
-    } else {
-        false
-    }
+    if line.closed == 2 { line.digits } else { false }
 }
 
 fn is_begun(line: Line) -> bool
     ensures { λ r. ⌜ r ≡ begun line ⌝ }
 {
-    if line.closed == 0 {
-        line.digits
-    } else {
-        true
-    }
+    if line.closed == 0 { line.digits } else { true }
 }
 
 fn no_tasks() -> TaskList

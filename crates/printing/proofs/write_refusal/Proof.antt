@@ -2,7 +2,7 @@
 use borrow.Author.Needs.{needs}
 use Rattle.printing.specs.Text.{ascii, crlf, refusalHeader, refusalText}
 use Rattle.printing.proofs.Chain.{chain, put-whole}
-use Rattle.printing.proofs.Rooms.{refusal-room}
+use Rattle.printing.proofs.Rooms.{refusal-room, refusal-room-enough}
 use Rattle.printing.proofs.Signed.{back32}
 use Rattle.printing.proofs.write_refusal.Statement.{statement}
 use Rattle.printing.proofs.write_refusal.Tie as tie
@@ -25,8 +25,9 @@ same-length c = search needs
 returns : tie.Need-returns
 unfolding refusalText refusalHeader crlf ascii
 returns c =
-    let line = rw (back32 _ (c .before .before .before .before .before .before .before .before .before .before .fits .margin)) at (c .before .before .put-refusal .ensures) in
-    put-whole (chain (c .before .before .before .before .before .before .put-text .ensures) line)
+    let fits = c .before .before .before .before .before .before .before .before .before .before .fits in
+    let whole = put-whole (chain (c .before .before .before .before .before .before .put-text .ensures) (rw (back32 _ (fits .margin)) at (c .before .before .put-refusal .ensures))) in
+    (whole, refusal-room-enough _ _ _ (fits .number) (fits .task) (fits .margin) whole)
 
 pub write-refusal-spec : {M : Type 1} → statement M
 write-refusal-spec = tie.close (tie.spec slice-aggregate-put-text put-text-requires put-refusal-requires same-length returns)

@@ -1,11 +1,11 @@
 -- `printing::write_table` meets its contract.
 use mathlib.Core.Path.{sym}
 use native.Mathlib.Omega.{arith}
-use lib.Seq.{length-take-le, take-all}
+use lib.Seq.{length-take-le}
 use borrow.Author.Needs.{needs}
 use Rattle.printing.specs.Text.{ascii, crlf, tableHeader, tableText}
 use Rattle.printing.proofs.Chain.{chain, put-whole}
-use Rattle.printing.proofs.Rooms.{table-room, cycle-room}
+use Rattle.printing.proofs.Rooms.{table-room, cycle-room, table-room-enough, whole-table}
 use Rattle.printing.proofs.write_table.Statement.{statement}
 use Rattle.printing.proofs.write_table.Tie as tie
 
@@ -33,14 +33,18 @@ same-length c = search needs
 
 returns : tie.Need-returns
 unfolding tableText tableHeader crlf ascii
-returns c = put-whole (chain (c .before .before .before .before .before .before .before .before .put-text .ensures) (c .before .before .put-slices .ensures))
+returns c =
+    let whole = put-whole (chain (c .before .before .before .before .before .before .before .before .put-text .ensures) (c .before .before .put-slices .ensures)) in
+    (whole, table-room-enough _ _ (λ i. omega (arith, c .before .before .before .before .before .before .before .before .before .before .before .before .shared-slice-known .given i)) whole)
 
 same-length-2 : tie.Need-same-length-2
 same-length-2 c = search needs
 
 returns-2 : tie.Need-returns-2
 unfolding tableText tableHeader crlf ascii
-returns-2 c = rw (take-all _ _ (c .before .before .before .before .if1 .left)) (put-whole (chain (c .before .before .before .before .before .before .before .put-text .ensures) (c .before .before .put-slices2 .ensures)))
+returns-2 c =
+    let whole = whole-table _ _ (c .before .before .before .before .if1 .left) (put-whole (chain (c .before .before .before .before .before .before .before .put-text .ensures) (c .before .before .put-slices2 .ensures))) in
+    (whole, table-room-enough _ _ (λ i. omega (arith, c .before .before .before .before .before .before .before .before .before .before .before .shared-slice-known .given i)) whole)
 
 pub write-table-spec : {M : Type 1} → statement M
 write-table-spec = tie.close (tie.spec slice-aggregate-put-text put-text-requires slice-aggregate-put-slices put-slices-requires put-slices-requires-2 same-length returns same-length-2 returns-2)
