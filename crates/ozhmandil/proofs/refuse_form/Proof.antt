@@ -1,6 +1,7 @@
 -- `refuse_form` meets its contract.
 use Rattle.ozhmandil.specs.Output.{ofForm}
 use borrow.Author.Needs.{needs}
+use Rattle.ozhmandil.proofs.refuse_form.Tie as tie
 use Rattle.ozhmandil.proofs.refuse_form.Statement.{statement}
 
 enum-known-form : tie.Need-enum-known-form
