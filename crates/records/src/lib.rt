@@ -1,6 +1,5 @@
 // The program's input, from bytes to a task list: three decimal fields a line, lines parted by the pair CRLF.
 ghost use mathlib.Core.Path.{_≡_};
-ghost use mathlib.Core.Bool.{true};
 ghost use mathlib.Core.List.{[]};
 ghost use Prim.Native.Nat.{_≤_, _<_};
 ghost use Rattle.tasks.specs.List.{listOf};
@@ -137,21 +136,13 @@ fn with_byte(line: Line, byte: u8) -> Line
 fn is_complete(line: Line) -> bool
     ensures { λ r. ⌜ r ≡ complete line ⌝ }
 {
-    if line.closed == 2 {
-        line.digits
-    } else {
-        false
-    }
+    if line.closed == 2 { line.digits } else { false }
 }
 
 fn is_begun(line: Line) -> bool
     ensures { λ r. ⌜ r ≡ begun line ⌝ }
 {
-    if line.closed == 0 {
-        line.digits
-    } else {
-        true
-    }
+    if line.closed == 0 { line.digits } else { true }
 }
 
 fn no_tasks() -> TaskList
