@@ -9,8 +9,8 @@ use native.Mathlib.Numerals.{add-one}
 use lib.Dec.{eqb}
 use lib.ListN.{length, getD, drop, drop-of-length-le}
 use lib.Seq.{drop-cons}
-use borrow.Author.Tests.{eq-eqb, ne-eqb, eqb-true}
-use Rattle.basis.specs.Choose.{choose, choose-yes, choose-no, choose-either, bool-cases, eq-or-ne}
+use borrow.Author.Tests.{ne-eqb}
+use Rattle.basis.specs.Choose.{choose, choose-either, eq-or-ne}
 use Rattle.tasks.specs.declared.TaskList.{TaskList}
 use Rattle.tasks.specs.List.{listOf}
 use Rattle.records.specs.declared.Form.{Form}

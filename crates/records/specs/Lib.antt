@@ -4,3 +4,4 @@ pub mod Shapes
 pub mod RowForm
 pub mod LineEnds
 pub mod Reading
+pub mod Worked

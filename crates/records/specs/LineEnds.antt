@@ -7,7 +7,7 @@ use Prim.Native.Nat.{ℕ, zero, suc, _≤_}
 use native.Mathlib.Omega.{arith}
 use lib.Dec.{eqb}
 use lib.ListN.{length, getD}
-use borrow.Author.Tests.{eq-eqb, ne-eqb, eqb-true, eqb-false}
+use borrow.Author.Tests.{ne-eqb, eqb-true, eqb-false}
 use Rattle.basis.specs.Choose.{choose, choose-yes, choose-no, eq-or-ne}
 use Rattle.records.specs.Grammar.{CR, LF, NoPair, Lines, no-more, unclosed, closed}
 

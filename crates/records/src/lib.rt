@@ -1,6 +1,5 @@
 // The program's input, from bytes to a task list: three decimal fields a line, lines parted by the pair CRLF.
 ghost use mathlib.Core.Path.{_≡_};
-ghost use mathlib.Core.Bool.{true};
 ghost use mathlib.Core.List.{[]};
 ghost use Prim.Native.Nat.{_≤_, _<_};
 ghost use Rattle.tasks.specs.List.{listOf};

@@ -1,11 +1,10 @@
 -- `records::read_list` meets its contract: after i bytes, what is left to read comes to the same answer as the whole input.
 use Prim.Native.Nat.{_≤_, _-_}
-use mathlib.Core.Path.{_≡_, refl, subst, sym}
-use mathlib.Core.Bool.{false, true≢false}
+use mathlib.Core.Path.{_≡_, subst, sym}
 use native.Mathlib.Omega.{arith}
-use lib.ListN.{length, drop}
+use lib.ListN.{length, drop, getD}
 use Rattle.records.specs.Grammar.{Reads}
-use Rattle.records.specs.Shapes.{scan, parsedOf, nothing}
+use Rattle.records.specs.Shapes.{scan, parsedOf}
 use Rattle.records.specs.Reading.{parsed-reads}
 use Rattle.records.proofs.Turns.{Counted, no-byte-yet, one-byte-more, no-byte-more, none-counted, counted-on}
 use Rattle.records.proofs.read_list.Statement.{statement}
@@ -48,8 +47,8 @@ loop-again c =
     let turn = c .before .before .before .before .loop in
     let input = c .before .before .before .before .before .before .before .before .args .input .now in (
       omega arith,
-      one-byte-more input (turn .i) _ _ _ _ _ _ (omega arith) (turn .inv .1) (c .before .read-after .ensures) (c .line-after .ensures),
-      counted-on _ _ _ _ _ _ (turn .inv .2) (c .before .read-after .ensures),
+      one-byte-more input (turn .i) _ _ _ _ _ _ (omega arith) (turn .inv .1) (cc) (cc),
+      counted-on _ _ _ (turn .line) _ (getD input (turn .i) 0) (turn .inv .2) (cc),
     )
 
 at-end-requires : tie.Need-at-end-requires Inv-loop μ-loop
