@@ -4,6 +4,8 @@
 use mathlib.Core.Path.{_≡_, sym, ap, ap₂, _∙_}
 use mathlib.Core.List.{List}
 use Prim.Native.Nat.{ℕ}
+use lib.IntN.{ℤ}
+use lib.ListN.{take}
 use Rattle.tasks.specs.declared.TaskList.{TaskList}
 use Rattle.tasks.specs.declared.Bounds.{Bounds}
 use Rattle.tasks.specs.Bounds.{boundsOf}
@@ -27,6 +29,11 @@ use Rattle.readings.specs.Reading.{entryOf, refusalOf, loggedOf}
 use Rattle.units.specs.declared.Slices.{Slices}
 use Rattle.units.specs.Conversion.{paper, runtimeOf, periodOf}
 use Rattle.units.specs.Laws.{paper-tells}
+use Rattle.records.specs.declared.Parsed.{Parsed}
+use Rattle.records.specs.Grammar.{Reads}
+use Rattle.records.specs.Reading.{reads-one}
+use Rattle.printing.specs.Text.{refusalText, tableText}
+use Rattle.printing.specs.Written.{Written, written-one}
 
 -- what equals one thing is one thing
 same : {A : Type 0} {x r r′ : A} → r ≡ x → r′ ≡ x → r ≡ r′
@@ -77,3 +84,16 @@ runtime-slices micros slice r r′ e e′ = paper-tells r r′ (same e e′)
 
 pub period-slices : (micros slice : ℕ) (r r′ : Slices) → paper r ≡ periodOf micros slice → paper r′ ≡ periodOf micros slice → r ≡ r′
 period-slices micros slice r r′ e e′ = paper-tells r r′ (same e e′)
+
+-- records: read_list
+pub read-list : (input : List ℕ) (r r′ : Parsed) → Reads input r → Reads input r′ → r ≡ r′
+read-list input r r′ R R′ = reads-one R R′
+
+-- printing: write_refusal, write_table, with the lent bytes
+pub write-refusal : (number task : ℕ) (margin : ℤ) (old new new′ : List ℕ) (r r′ : ℕ)
+    → Written (refusalText number task margin) old new r → Written (refusalText number task margin) old new′ r′ → (r ≡ r′) × (new ≡ new′)
+write-refusal number task margin old new new′ r r′ W W′ = written-one W W′
+
+pub write-table : (table : List ℕ) (cycle : ℕ) (old new new′ : List ℕ) (r r′ : ℕ)
+    → Written (tableText (take cycle table)) old new r → Written (tableText (take cycle table)) old new′ r′ → (r ≡ r′) × (new ≡ new′)
+write-table table cycle old new new′ r r′ W W′ = written-one W W′
