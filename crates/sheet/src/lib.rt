@@ -17,12 +17,13 @@ fn say_number(text: &[u8], number: u64) {
     io::print_decimal(STDOUT_FILENO, number);
 }
 
-// The margin of an accepted list is never below zero.
-fn say_margin(margin: i32) {
+// A text, and a margin after it, which is signed.
+pub fn say_margin(text: &[u8], margin: i32) {
     if margin < 0 {
-        say(b", margin below 0");
+        say(text);
+        say_number(b"-", (0 - (margin as i64)) as u64);
     } else {
-        say_number(b", margin ", margin as u64);
+        say_number(text, margin as u64);
     }
 }
 
@@ -42,8 +43,37 @@ fn say_verdict(cycle: u32, jobs: u32, task: usize, margin: i32) {
     say_number(b", jobs ", jobs as u64);
     say_number(b"; tightest task ", task as u64);
     say_name(task);
-    say_margin(margin);
+    say_margin(b", margin ", margin);
     say(b"\n");
+}
+
+fn say_refusal(number: u32, task: usize, margin: i32) {
+    say_number(b"refusal ", number as u64);
+    say_number(b", task ", task as u64);
+    say_margin(b", margin ", margin);
+    say(b"\n");
+}
+
+fn say_not_built(built: Verdict) {
+    match built {
+        Verdict::Refused {
+            number,
+            task,
+            margin,
+        } => say_refusal(number, task, margin),
+        _ => {}
+    }
+}
+
+fn say_not_begun(begun: Begun) {
+    match begun {
+        Begun::Refused {
+            number,
+            task,
+            margin,
+        } => say_refusal(number, task, margin),
+        _ => {}
+    }
 }
 
 fn say_mode(mode: Mode) {
@@ -121,12 +151,12 @@ pub fn print(title: &[u8], list: TaskList, driven: Driven, log: &[u8], ends: &[u
         margin,
     } = built
     else {
-        say(b"no table\n");
+        say_not_built(built);
         return;
     };
     say_verdict(cycle, jobs, task, margin);
     let Begun::Accepted = begun else {
-        say(b"no run\n");
+        say_not_begun(begun);
         return;
     };
     let mode = state.mode;

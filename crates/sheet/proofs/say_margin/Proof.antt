@@ -1,24 +1,8 @@
--- `sheet::say_margin` is safe: a margin that is not below zero fits.
-use mathlib.Core.Path.{_≡_, sym, ap, _∙_}
-use mathlib.Core.Bool.{Bool, true, false}
-use Prim.Native.Nat.{ℕ, _<_, _^_}
-use native.Mathlib.Omega.{arith}
-use lib.Dec.{T}
-use lib.IntN.{ℤ, pos, negsuc, natAbs}
-use lib.Signed.{ltZ, nonNeg}
-use mir.Syntax.{w32, w64}
-use mir.Val.{Fits, SFits, toZ, ofZ}
-use mir.Facts.{toZ-ofZ}
+-- `sheet::say_margin` is safe.
+use Rattle.sheet.proofs.Margins.{read-wide, read-counts, read-turned, read-turned-counts}
 use borrow.Author.Needs.{needs}
 use Rattle.sheet.proofs.say_margin.Statement.{statement}
 use Rattle.sheet.proofs.say_margin.Tie as tie
-
-counts : (z : ℤ) → SFits w32 z → ltZ z (pos 0) ≡ false → T (nonNeg z) × Fits w64 (natAbs z)
-counts (pos n) f e = (tt, record { fits = omega (arith, f .sfits) })
-counts (negsuc n) f e = let z : _≡_ {A = Bool} true false = e in let y : _≡_ {A = ℕ} 0 1 = cc in absurd (omega arith)
-
-slice-aggregate-say : tie.Need-slice-aggregate-say
-slice-aggregate-say c = search needs
 
 say-requires : tie.Need-say-requires
 say-requires c κs = search needs
@@ -27,10 +11,22 @@ slice-aggregate-say-number : tie.Need-slice-aggregate-say-number
 slice-aggregate-say-number c = search needs
 
 cast-say-number : tie.Need-cast-say-number
-cast-say-number c = rw (toZ-ofZ (c .before .before .fits .margin)) (counts (c .before .before .args .margin) (c .before .before .fits .margin) (rw (toZ-ofZ (c .before .before .fits .margin)) at (c .before .if1 .left)))
+cast-say-number c = read-wide _ (c .before .before .before .before .fits .margin)
+
+sub-say-number : tie.Need-sub-say-number
+sub-say-number c = read-turned _ (c .before .before .before .before .fits .margin) (c .before .before .if1 .taken)
+
+cast-say-number-2 : tie.Need-cast-say-number-2
+cast-say-number-2 c = read-turned-counts _ (c .before .before .before .before .fits .margin) (c .before .before .if1 .taken)
 
 say-number-requires : tie.Need-say-number-requires
 say-number-requires c κs = search needs
+
+cast-say-number-3 : tie.Need-cast-say-number-3
+cast-say-number-3 c = read-counts _ (c .before .before .fits .margin) (c .if1 .left)
+
+say-number-requires-2 : tie.Need-say-number-requires-2
+say-number-requires-2 c κs = search needs
 
 returns : tie.Need-returns
 returns c = search needs
@@ -42,10 +38,13 @@ pub say-margin-spec : {M : Type 1} → statement M
 say-margin-spec =
     tie.close
     (tie.spec
-    slice-aggregate-say
     say-requires
     slice-aggregate-say-number
     cast-say-number
+    sub-say-number
+    cast-say-number-2
     say-number-requires
+    cast-say-number-3
+    say-number-requires-2
     returns
     returns-2)
