@@ -2,7 +2,7 @@
 use mathlib.Core.Path.{_≡_, refl, sym, ap, ap₂, subst, _∙_}
 use mathlib.Core.Bool.{Bool, true, false, true≢false}
 use mathlib.Core.List.{List, [], _∷_, _++_, append-nil, append-assoc}
-use mathlib.Core.Logic.{_⊎_, inl, inr, ⊎-elim}
+use mathlib.Core.Logic.{_⊎_, inl, inr, ⊎-elim, _↔_}
 use Prim.Native.Nat.{ℕ, suc, _+_, _≤_, _<_}
 use native.Mathlib.Omega.{arith}
 use native.Mathlib.Numerals.{add-one}
@@ -19,7 +19,7 @@ use Rattle.records.specs.declared.Form.the-variants.{Good, Bad}
 use Rattle.records.specs.declared.Parsed.{Parsed}
 use Rattle.records.specs.declared.Line.{Line}
 use Rattle.records.specs.Grammar.{CR, LF, Row, Rows, no-rows, row, Lines, Reads, good, bad}
-use Rattle.records.specs.Shapes.{fresh, spoilt, withDigit, withComma, withByte, lineFrom, complete, begun, taskOf, kept, closeGood, closeLine, good-closes, bad-stays, readLines, plain, lineAfter, readAfter, atEnd, scan, nothing, parsedOf}
+use Rattle.records.specs.Shapes.{fresh, spoilt, withDigit, withComma, withByte, lineFrom, complete, begun, taskOf, kept, closeGood, closeLine, good-closes, bad-stays, readLines, isPair, withHeld, plain, lineAfter, readAfter, atEnd, scan, nothing, parsedOf}
 use Rattle.records.specs.RowForm.{row-complete, complete-row}
 use Rattle.records.specs.LineEnds.{push, held, ahead, linesFrom, linesOf, lines-from, lines-only}
 
@@ -69,8 +69,12 @@ unfolding readFrom lineFrom
 line-ends p s ls = refl
 
 ahead-read : (p : Parsed) (s : Line) (cr : Bool) (b : ℕ) (ls : List (List ℕ)) → readFrom (readAfter p s cr b) (lineAfter s cr b) ls ≡ readFrom p s (ahead cr b ls)
-unfolding readAfter lineAfter ahead choose
-ahead-read p s false b ls = held-read p s b ls
+unfolding readAfter lineAfter isPair withHeld ahead choose
+ahead-read p s false b ls =
+    ⊎-elim
+    (λ (e : b ≡ LF). rw (eq-eqb b LF e) (held-read p s b ls))
+    (λ (ne : b ≡ LF → ⊥). rw (ne-eqb b LF ne) (held-read p s b ls))
+    (eq-or-ne b LF)
 ahead-read p s true b ls =
     ⊎-elim
     (λ (e : b ≡ LF). rw (eq-eqb b LF e) (fresh-read (closeLine p s) ls ∙ sym (line-ends p s ls)))
@@ -78,7 +82,7 @@ ahead-read p s true b ls =
     (eq-or-ne b LF)
 
 scan-lines : (bs : List ℕ) (p : Parsed) (s : Line) (cr : Bool) → scan p s cr bs ≡ readFrom p s (linesFrom cr bs)
-unfolding scan linesFrom readFrom readLines lineFrom atEnd choose
+unfolding scan linesFrom readFrom readLines lineFrom atEnd withHeld begun spoilt choose
 scan-lines [] p s true = ap (closeLine p) (sym (lone-cr s))
 scan-lines [] p s false = refl
 scan-lines (b ∷ bs) p s cr = scan-lines bs (readAfter p s cr b) (lineAfter s cr b) (eqb b CR) ∙ ahead-read p s cr b (linesFrom (eqb b CR) bs)
@@ -255,3 +259,7 @@ parsed-reads input =
   where
     is-parsed : {r : Parsed} → Reads input r → Reads input (parsedOf input)
     is-parsed R = subst (Reads input) (reads-only R) R
+
+-- The reader accepts exactly the grammar.
+pub reads-exactly : (input : List ℕ) (r : Parsed) → Reads input r ↔ (r ≡ parsedOf input)
+reads-exactly input r = (reads-only, λ e. subst (Reads input) (sym e) (parsed-reads input))

@@ -10,7 +10,7 @@ use Rattle.tasks.specs.List.{listOf, taskAt, noTask}
 use Rattle.records.specs.declared.Form.the-variants.{Good, Bad}
 use Rattle.records.specs.declared.Parsed.{Parsed}
 use Rattle.records.specs.Grammar.{Reads}
-use Rattle.records.specs.Shapes.{fresh, spoilt, full, withDigit, withComma, withByte, complete, begun, taskOf, kept, closeGood, closeAs, closeLine, plain, lineAfter, readAfter, atEnd, scan, nothing, parsedOf}
+use Rattle.records.specs.Shapes.{fresh, spoilt, full, withDigit, withComma, withByte, complete, begun, taskOf, kept, closeGood, closeAs, closeLine, isPair, withHeld, plain, lineAfter, readAfter, atEnd, scan, nothing, parsedOf}
 use Rattle.records.specs.Reading.{parsed-reads}
 
 abbrev bytes : String → List ℕ
@@ -51,7 +51,7 @@ pub worked :
     × Reads (bytes "\"2\",1,0") (badLine 1)
     × Reads (bytes "2,1,0\r\nx\r\n3,1,0\r\ny") (badLine 2)
     × Reads (times 299 (bytes "2,1,0\r\n") ++ bytes "x\r\n2,1,0") (badLine 300)
-unfolding fresh spoilt full withDigit withComma withByte complete begun taskOf kept closeGood closeAs closeLine plain lineAfter readAfter atEnd scan nothing parsedOf listOf taskAt noTask overwrite choose
+unfolding fresh spoilt full withDigit withComma withByte complete begun taskOf kept closeGood closeAs closeLine isPair withHeld plain lineAfter readAfter atEnd scan nothing parsedOf listOf taskAt noTask overwrite choose
 worked = (
   parsed-reads _,
   parsed-reads _,
