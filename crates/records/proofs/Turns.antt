@@ -1,5 +1,5 @@
 -- One turn of the loop over the bytes, as laws over plain values.
-use mathlib.Core.Path.{_≡_, sym, ap, _∙_}
+use mathlib.Core.Path.{_≡_, refl, sym, ap, _∙_}
 use mathlib.Core.Bool.{Bool, true, false, true≢false}
 use mathlib.Core.List.{List, []}
 use mathlib.Core.Logic.{⊎-elim}
@@ -10,7 +10,7 @@ use lib.Dec.{eqb}
 use lib.ListN.{length, getD, drop, drop-of-length-le}
 use lib.Seq.{drop-cons}
 use borrow.Author.Tests.{ne-eqb}
-use Rattle.basis.specs.Choose.{choose, choose-either, bool-cases, eq-or-ne}
+use Rattle.basis.specs.Choose.{choose, choose-either, eq-or-ne}
 use Rattle.tasks.specs.declared.TaskList.{TaskList}
 use Rattle.tasks.specs.List.{listOf}
 use Rattle.records.specs.declared.Form.{Form}
@@ -55,13 +55,13 @@ no-byte-more input i p q s cr r l e eq = eq ∙ ap (scan p s cr) (sym (drop-of-l
 
 pub counted-on : (i : ℕ) (p q : Parsed) (s : Line) (cr : Bool) (b : ℕ) → Counted i p cr → q ≡ readAfter p s cr b → Counted (i + 1) q (eqb b 13)
 unfolding readAfter isPair choose
-counted-on i p q s cr b C e =
+counted-on i p q s true b C e =
     ⊎-elim
-    (λ (z : b ≡ 10).
+    (λ (z : b ≡ 10). rw (e, z) (record { lines = omega (arith, one-line-more p s, C .held refl); held = λ (f : false ≡ true). absurd (true≢false (sym f)) }))
+    (λ (nz : b ≡ 10 → ⊥). rw (e, ne-eqb b 10 nz) (record { lines = omega (arith, C .lines); held = λ _. omega (arith, C .lines) }))
+    (eq-or-ne b 10)
+counted-on i p q s false b C e =
     ⊎-elim
-    (λ (t : cr ≡ true). rw (e, z, t) (record { lines = omega (arith, one-line-more p s, C .held t); held = λ (f : false ≡ true). absurd (true≢false (sym f)) }))
-    (λ (t : cr ≡ false). rw (e, z, t) (record { lines = omega (arith, C .lines); held = λ _. omega (arith, C .lines) }))
-    (bool-cases cr))
-    (λ (nz : b ≡ 10 → ⊥).
-    rw (e, ne-eqb b 10 nz) (record { lines = omega (arith, C .lines); held = λ _. omega (arith, C .lines) }))
+    (λ (z : b ≡ 10). rw (e, z) (record { lines = omega (arith, C .lines); held = λ _. omega (arith, C .lines) }))
+    (λ (nz : b ≡ 10 → ⊥). rw (e, ne-eqb b 10 nz) (record { lines = omega (arith, C .lines); held = λ _. omega (arith, C .lines) }))
     (eq-or-ne b 10)
