@@ -3,7 +3,7 @@ ghost use mathlib.Core.Path.{_≡_};
 ghost use mathlib.Core.List.{[]};
 ghost use Prim.Native.Nat.{_≤_, _<_};
 ghost use Rattle.tasks.specs.List.{listOf};
-ghost use Rattle.records.specs.Grammar.{Reads};
+ghost use Rattle.records.specs.Grammar.{paper, Reads};
 ghost use Rattle.records.specs.Shapes.{fresh, spoilt, full, withDigit, withComma, withByte, complete, begun, kept, closeGood, closeLine, isPair, withHeld, plain, lineAfter, readAfter, atEnd};
 use tasks::Task;
 use tasks::TaskList;
@@ -266,7 +266,7 @@ fn at_end(read: Parsed, line: Line, held: bool) -> Parsed
 }
 
 pub fn read_list(input: &[u8]) -> Parsed
-    ensures { λ r. ⌜ Reads (now (input .entry)) r ⌝ }
+    ensures { λ r. ⌜ Reads (now (input .entry)) (paper r) ⌝ }
 {
     let none = no_tasks();
     let mut read = Parsed {

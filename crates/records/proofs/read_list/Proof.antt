@@ -3,7 +3,8 @@ use Prim.Native.Nat.{_≤_, _-_}
 use mathlib.Core.Path.{_≡_, subst, sym}
 use native.Mathlib.Omega.{arith}
 use lib.ListN.{length, drop}
-use Rattle.records.specs.Grammar.{Reads}
+use Rattle.records.specs.Grammar.{paper, Reads}
+use Rattle.records.specs.declared.Parsed.{Parsed}
 use Rattle.records.specs.Shapes.{scan, parsedOf}
 use Rattle.records.specs.Reading.{parsed-reads}
 use Rattle.records.proofs.Turns.{Counted, no-byte-yet, one-byte-more, no-byte-more, none-counted, counted-on}
@@ -58,7 +59,7 @@ returns : tie.Need-returns Inv-loop μ-loop
 returns c =
     let end = c .before .before .loop in
     let input = c .before .before .before .before .before .before .args .input .now in
-    subst (Reads input) (sym (no-byte-more input (end .i) _ _ _ _ _ (omega arith) (end .inv .1) (c .at-end .ensures))) (parsed-reads input)
+    subst (λ (r : Parsed). Reads input (paper r)) (sym (no-byte-more input (end .i) _ _ _ _ _ (omega arith) (end .inv .1) (c .at-end .ensures))) (parsed-reads input)
 
 pub read-list-spec : {M : Type 1} → statement M
 read-list-spec =
