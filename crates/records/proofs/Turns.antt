@@ -17,12 +17,12 @@ use Rattle.records.specs.declared.Form.{Form}
 use Rattle.records.specs.declared.Form.the-variants.{Good, Bad}
 use Rattle.records.specs.declared.Parsed.{Parsed}
 use Rattle.records.specs.declared.Line.{Line}
-use Rattle.records.specs.Shapes.{fresh, kept, closeGood, closeAs, closeLine, lineAfter, readAfter, atEnd, scan, nothing, parsedOf}
+use Rattle.records.specs.Shapes.{fresh, kept, closeGood, closeAs, closeLine, isPair, lineAfter, readAfter, atEnd, scan, nothing, parsedOf}
 
 -- Each line that is counted took the two bytes of its CRLF, and a CR held back is one byte more.
-pub record Counted (i : ℕ) (read : Parsed) (pending : Bool) : Type 0 where
+pub record Counted (i : ℕ) (read : Parsed) (cr : Bool) : Type 0 where
   pub lines : read .list .count + read .list .count ≤ i
-  pub held : pending ≡ true → suc (read .list .count + read .list .count) ≤ i
+  pub held : cr ≡ true → suc (read .list .count + read .list .count) ≤ i
 
 line-by-form : (f : Form) (p : Parsed) (s : Line) → closeAs f p s .list .count ≤ p .list .count + 1
 unfolding closeAs closeGood kept listOf
@@ -54,12 +54,14 @@ unfolding scan
 no-byte-more input i p q s cr r l e eq = eq ∙ ap (scan p s cr) (sym (drop-of-length-le input l)) ∙ e
 
 pub counted-on : (i : ℕ) (p q : Parsed) (s : Line) (cr : Bool) (b : ℕ) → Counted i p cr → q ≡ readAfter p s cr b → Counted (i + 1) q (eqb b 13)
-unfolding readAfter choose
-counted-on i p q s false b C e = rw e (record { lines = omega (arith, C .lines); held = λ _. omega (arith, C .lines) })
+unfolding readAfter isPair choose
 counted-on i p q s true b C e =
     ⊎-elim
-    (λ (z : b ≡ 10).
-    rw (e, z) (record { lines = omega (arith, one-line-more p s, C .held refl); held = λ (t : false ≡ true). absurd (true≢false (sym t)) }))
-    (λ (nz : b ≡ 10 → ⊥).
-    rw (e, ne-eqb b 10 nz) (record { lines = omega (arith, C .lines); held = λ _. omega (arith, C .lines) }))
+    (λ (z : b ≡ 10). rw (e, z) (record { lines = omega (arith, one-line-more p s, C .held refl); held = λ (f : false ≡ true). absurd (true≢false (sym f)) }))
+    (λ (nz : b ≡ 10 → ⊥). rw (e, ne-eqb b 10 nz) (record { lines = omega (arith, C .lines); held = λ _. omega (arith, C .lines) }))
+    (eq-or-ne b 10)
+counted-on i p q s false b C e =
+    ⊎-elim
+    (λ (z : b ≡ 10). rw (e, z) (record { lines = omega (arith, C .lines); held = λ _. omega (arith, C .lines) }))
+    (λ (nz : b ≡ 10 → ⊥). rw (e, ne-eqb b 10 nz) (record { lines = omega (arith, C .lines); held = λ _. omega (arith, C .lines) }))
     (eq-or-ne b 10)

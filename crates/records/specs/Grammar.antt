@@ -4,7 +4,9 @@ use mathlib.Core.List.{List, [], _∷_, _++_}
 use Prim.Native.Nat.{ℕ, suc, _+_, _-_, _*_, _≤_, _<_}
 use lib.ListN.{length, getD}
 use Rattle.tasks.specs.declared.Task.{Task}
+use Rattle.tasks.specs.declared.TaskList.{TaskList}
 use Rattle.tasks.specs.List.{listOf}
+use Rattle.records.specs.declared.Form.{Form}
 use Rattle.records.specs.declared.Form.the-variants.{Good, Bad}
 use Rattle.records.specs.declared.Parsed.{Parsed}
 
@@ -62,8 +64,29 @@ pub data Rows : List (List ℕ) → List Task → Type 0 where
   no-rows : Rows [] []
   row : {line : List ℕ} {t : Task} {lines : List (List ℕ)} {ts : List Task} → Row line t → Rows lines ts → Rows (line ∷ lines) (t ∷ ts)
 
--- What reading an input answers: the list of the tasks if every line is in form; else the number of the first line that is not,
--- counted from 1, and the list of no tasks.
-pub data Reads (input : List ℕ) : Parsed → Type 0 where
-  good : {lines : List (List ℕ)} {ts : List Task} → Lines input lines → Rows lines ts → Reads input (record { form = Good; list = listOf ts })
-  bad : {ts : List Task} (before : List (List ℕ)) (line : List ℕ) (after : List (List ℕ)) → Lines input (before ++ line ∷ after) → Rows before ts → ((t : Task) → Row line t → ⊥) → Reads input (record { form = Bad (suc (length before)); list = listOf [] })
+-- An answer in the paper's numbers: the refusal, 0 for none, the line that it names, and the list.
+pub record Answer : Type 0 where
+  pub refusal : ℕ
+  pub line : ℕ
+  pub list : TaskList
+
+unfoldable pub accepted : List Task → Answer
+accepted ts = record { refusal = 0; line = 0; list = listOf ts }
+
+-- Refused, the list is that of no tasks.
+unfoldable pub refused : ℕ → Answer
+refused n = record { refusal = 15; line = n; list = listOf [] }
+
+-- each case of the answer
+unfoldable pub numbers : Form → TaskList → Answer
+numbers Good l = record { refusal = 0; line = 0; list = l }
+numbers (Bad n) l = record { refusal = 15; line = n; list = l }
+
+unfoldable pub paper : Parsed → Answer
+paper r = numbers (r .form) (r .list)
+
+-- What reading an input answers: the list of the tasks if every line is in form; else refusal 15 for the first line that is not,
+-- counted from 1.
+pub data Reads (input : List ℕ) : Answer → Type 0 where
+  good : {lines : List (List ℕ)} {ts : List Task} → Lines input lines → Rows lines ts → Reads input (accepted ts)
+  bad : {ts : List Task} (before : List (List ℕ)) (line : List ℕ) (after : List (List ℕ)) → Lines input (before ++ line ∷ after) → Rows before ts → ((t : Task) → Row line t → ⊥) → Reads input (refused (suc (length before)))

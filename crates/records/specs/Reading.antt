@@ -2,7 +2,7 @@
 use mathlib.Core.Path.{_≡_, refl, sym, ap, ap₂, subst, _∙_}
 use mathlib.Core.Bool.{Bool, true, false, true≢false}
 use mathlib.Core.List.{List, [], _∷_, _++_, append-nil, append-assoc}
-use mathlib.Core.Logic.{_⊎_, inl, inr, ⊎-elim}
+use mathlib.Core.Logic.{_⊎_, inl, inr, ⊎-elim, _↔_}
 use Prim.Native.Nat.{ℕ, suc, _+_, _≤_, _<_}
 use native.Mathlib.Omega.{arith}
 use native.Mathlib.Numerals.{add-one}
@@ -15,11 +15,12 @@ use Rattle.basis.specs.Bytes.{overwrite, overwrite-length, overwrite-at, overwr
 use Rattle.tasks.specs.declared.Task.{Task}
 use Rattle.tasks.specs.declared.TaskList.{TaskList}
 use Rattle.tasks.specs.List.{listOf, taskAt, noTask}
+use Rattle.records.specs.declared.Form.{Form}
 use Rattle.records.specs.declared.Form.the-variants.{Good, Bad}
 use Rattle.records.specs.declared.Parsed.{Parsed}
 use Rattle.records.specs.declared.Line.{Line}
-use Rattle.records.specs.Grammar.{CR, LF, Row, Rows, no-rows, row, Lines, Reads, good, bad}
-use Rattle.records.specs.Shapes.{fresh, spoilt, withDigit, withComma, withByte, lineFrom, complete, begun, taskOf, kept, closeGood, closeLine, good-closes, bad-stays, readLines, plain, lineAfter, readAfter, atEnd, scan, nothing, parsedOf}
+use Rattle.records.specs.Grammar.{CR, LF, Row, Rows, no-rows, row, Lines, Answer, accepted, refused, numbers, paper, Reads, good, bad}
+use Rattle.records.specs.Shapes.{fresh, spoilt, withDigit, withComma, withByte, lineFrom, complete, begun, taskOf, kept, closeGood, closeLine, good-closes, bad-stays, readLines, isPair, withHeld, plain, lineAfter, readAfter, atEnd, scan, nothing, parsedOf}
 use Rattle.records.specs.RowForm.{row-complete, complete-row}
 use Rattle.records.specs.LineEnds.{push, held, ahead, linesFrom, linesOf, lines-from, lines-only}
 
@@ -69,8 +70,12 @@ unfolding readFrom lineFrom
 line-ends p s ls = refl
 
 ahead-read : (p : Parsed) (s : Line) (cr : Bool) (b : ℕ) (ls : List (List ℕ)) → readFrom (readAfter p s cr b) (lineAfter s cr b) ls ≡ readFrom p s (ahead cr b ls)
-unfolding readAfter lineAfter ahead choose
-ahead-read p s false b ls = held-read p s b ls
+unfolding readAfter lineAfter isPair withHeld ahead choose
+ahead-read p s false b ls =
+    ⊎-elim
+    (λ (e : b ≡ LF). rw (eq-eqb b LF e) (held-read p s b ls))
+    (λ (ne : b ≡ LF → ⊥). rw (ne-eqb b LF ne) (held-read p s b ls))
+    (eq-or-ne b LF)
 ahead-read p s true b ls =
     ⊎-elim
     (λ (e : b ≡ LF). rw (eq-eqb b LF e) (fresh-read (closeLine p s) ls ∙ sym (line-ends p s ls)))
@@ -78,7 +83,7 @@ ahead-read p s true b ls =
     (eq-or-ne b LF)
 
 scan-lines : (bs : List ℕ) (p : Parsed) (s : Line) (cr : Bool) → scan p s cr bs ≡ readFrom p s (linesFrom cr bs)
-unfolding scan linesFrom readFrom readLines lineFrom atEnd choose
+unfolding scan linesFrom readFrom readLines lineFrom atEnd withHeld begun spoilt choose
 scan-lines [] p s true = ap (closeLine p) (sym (lone-cr s))
 scan-lines [] p s false = refl
 scan-lines (b ∷ bs) p s cr = scan-lines bs (readAfter p s cr b) (lineAfter s cr b) (eqb b CR) ∙ ahead-read p s cr b (linesFrom (eqb b CR) bs)
@@ -187,19 +192,41 @@ bad-read n [] = refl
 bad-read n (l ∷ ls) = ap (λ (x : Parsed). readLines x ls) (bad-stays (bad-line n) (lineFrom fresh l) n refl) ∙ bad-read n ls
 
 -- The grammar's answer is the reader's,
-pub reads-only : {input : List ℕ} {r : Parsed} → Reads input r → r ≡ parsedOf input
-unfolding readLines nothing
+pub reads-only : {input : List ℕ} {a : Answer} → Reads input a → a ≡ paper (parsedOf input)
+unfolding readLines nothing paper numbers accepted refused
 reads-only {input = input} (good {lines = ls} {ts = ts} L R) =
-    sym
-    (parsed-lines input ∙ ap (readLines nothing) (sym (lines-only L)) ∙ ap (readLines nothing) (sym (append-nil ls)) ∙ rows-read [] R [])
+    ap paper
+    (sym
+    (parsed-lines input ∙ ap (readLines nothing) (sym (lines-only L)) ∙ ap (readLines nothing) (sym (append-nil ls)) ∙ rows-read [] R []))
 reads-only {input = input} (bad {ts = ts} front l back L R not-row) =
-    sym
+    ap paper
+    (sym
     (parsed-lines input ∙ ap (readLines nothing) (sym (lines-only L)) ∙ rows-read [] R (l ∷ back)
-    ∙ ap (λ (x : Parsed). readLines x back) (no-row-closes ts l not-row) ∙ bad-read (suc (length ts)) back ∙ ap (λ (n : ℕ). bad-line (suc n)) (rows-length R))
+    ∙ ap (λ (x : Parsed). readLines x back) (no-row-closes ts l not-row) ∙ bad-read (suc (length ts)) back ∙ ap (λ (n : ℕ). bad-line (suc n)) (rows-length R)))
+
+-- Two answers with the same numbers are one,
+numbers-tell : (f g : Form) (l m : TaskList) → numbers f l ≡ numbers g m → f ≡ g
+unfolding numbers
+numbers-tell Good Good l m e = refl
+numbers-tell Good (Bad n) l m e = absurd (omega (arith, ap (λ (a : Answer). a .refusal) e))
+numbers-tell (Bad n) Good l m e = absurd (omega (arith, ap (λ (a : Answer). a .refusal) e))
+numbers-tell (Bad n) (Bad k) l m e = ap Bad (ap (λ (a : Answer). a .line) e)
+
+numbers-list : (f : Form) (l : TaskList) → numbers f l .list ≡ l
+unfolding numbers
+numbers-list Good l = refl
+numbers-list (Bad n) l = refl
+
+pub paper-tells : (q r : Parsed) → paper q ≡ paper r → q ≡ r
+unfolding paper
+paper-tells q r e =
+    ap₂ (λ (f : Form) (l : TaskList). record { form = f; list = l })
+    (numbers-tell (q .form) (r .form) (q .list) (r .list) e)
+    (sym (numbers-list (q .form) (q .list)) ∙ ap (λ (a : Answer). a .list) e ∙ numbers-list (r .form) (r .list))
 
 -- so no input has two answers;
-pub reads-one : {input : List ℕ} {q r : Parsed} → Reads input q → Reads input r → q ≡ r
-reads-one Q R = reads-only Q ∙ sym (reads-only R)
+pub reads-one : {input : List ℕ} (q r : Parsed) → Reads input (paper q) → Reads input (paper r) → q ≡ r
+reads-one q r Q R = paper-tells q r (reads-only Q ∙ sym (reads-only R))
 
 -- and it has one: all lines are rows, or there is a first that is none.
 record FirstBad (ls : List (List ℕ)) : Type 0 where
@@ -244,7 +271,7 @@ all-or-first-bad (l ∷ ls) =
     }))
     (bool-cases (complete (lineFrom fresh l)))
 
-pub parsed-reads : (input : List ℕ) → Reads input (parsedOf input)
+pub parsed-reads : (input : List ℕ) → Reads input (paper (parsedOf input))
 unfolding linesOf
 parsed-reads input =
     ⊎-elim
@@ -253,5 +280,9 @@ parsed-reads input =
     is-parsed (bad (b .front) (b .line) (b .back) (subst (Lines input) (b .parted) (lines-from false input)) (b .rows) (b .not-row)))
     (all-or-first-bad (linesOf input))
   where
-    is-parsed : {r : Parsed} → Reads input r → Reads input (parsedOf input)
+    is-parsed : {a : Answer} → Reads input a → Reads input (paper (parsedOf input))
     is-parsed R = subst (Reads input) (reads-only R) R
+
+-- The reader accepts exactly the grammar.
+pub reads-exactly : (input : List ℕ) (r : Parsed) → Reads input (paper r) ↔ (r ≡ parsedOf input)
+reads-exactly input r = (λ R. paper-tells r (parsedOf input) (reads-only R), λ e. subst (λ (x : Parsed). Reads input (paper x)) (sym e) (parsed-reads input))

@@ -93,22 +93,28 @@ readLines p [] = p
 readLines p (l ∷ ls) = readLines (closeLine p (lineFrom fresh l)) ls
 
 -- ---- a byte of the input
+unfoldable pub isPair : Bool → ℕ → Bool
+isPair held b = choose (eqb b 10) held false
+
+unfoldable pub withHeld : Line → Bool → Line
+withHeld s held = choose held spoilt s
+
 unfoldable pub plain : Line → ℕ → Line
 plain s b = choose (eqb b 13) s (withByte s b)
 
 unfoldable pub lineAfter : Line → Bool → ℕ → Line
-lineAfter s cr b = choose cr (choose (eqb b 10) fresh (plain spoilt b)) (plain s b)
+lineAfter s held b = choose (isPair held b) fresh (plain (withHeld s held) b)
 
 unfoldable pub readAfter : Parsed → Line → Bool → ℕ → Parsed
-readAfter p s cr b = choose cr (choose (eqb b 10) (closeLine p s) p) p
+readAfter p s held b = choose (isPair held b) (closeLine p s) p
 
 unfoldable pub atEnd : Parsed → Line → Bool → Parsed
-atEnd p s cr = choose cr (closeLine p spoilt) (choose (begun s) (closeLine p s) p)
+atEnd p s held = choose (begun (withHeld s held)) (closeLine p (withHeld s held)) p
 
 -- the answer after all bytes
 unfoldable pub scan : Parsed → Line → Bool → List ℕ → Parsed
-scan p s cr [] = atEnd p s cr
-scan p s cr (b ∷ bs) = scan (readAfter p s cr b) (lineAfter s cr b) (eqb b 13) bs
+scan p s held [] = atEnd p s held
+scan p s held (b ∷ bs) = scan (readAfter p s held b) (lineAfter s held b) (eqb b 13) bs
 
 unfoldable pub nothing : Parsed
 nothing = record { form = Good; list = listOf [] }

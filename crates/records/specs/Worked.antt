@@ -7,10 +7,8 @@ use Rattle.basis.specs.Choose.{choose}
 use Rattle.basis.specs.Bytes.{overwrite}
 use Rattle.tasks.specs.declared.Task.{Task}
 use Rattle.tasks.specs.List.{listOf, taskAt, noTask}
-use Rattle.records.specs.declared.Form.the-variants.{Good, Bad}
-use Rattle.records.specs.declared.Parsed.{Parsed}
-use Rattle.records.specs.Grammar.{Reads}
-use Rattle.records.specs.Shapes.{fresh, spoilt, full, withDigit, withComma, withByte, complete, begun, taskOf, kept, closeGood, closeAs, closeLine, plain, lineAfter, readAfter, atEnd, scan, nothing, parsedOf}
+use Rattle.records.specs.Grammar.{accepted, refused, numbers, paper, Reads}
+use Rattle.records.specs.Shapes.{fresh, spoilt, full, withDigit, withComma, withByte, complete, begun, taskOf, kept, closeGood, closeAs, closeLine, isPair, withHeld, plain, lineAfter, readAfter, atEnd, scan, nothing, parsedOf}
 use Rattle.records.specs.Reading.{parsed-reads}
 
 abbrev bytes : String → List ℕ
@@ -24,34 +22,28 @@ times (suc n) l = l ++ times n l
 abbrev task : ℕ → ℕ → ℕ → Task
 task period runtime memory = record { period = period; runtime = runtime; memory = memory }
 
-abbrev tasks : List Task → Parsed
-tasks ts = record { form = Good; list = listOf ts }
-
-abbrev badLine : ℕ → Parsed
-badLine n = record { form = Bad n; list = listOf [] }
-
 pub worked :
-    Reads (bytes "2,1,0\r\n3,1,0\r\n6,1,0") (tasks (task 2 1 0 ∷ task 3 1 0 ∷ task 6 1 0 ∷ []))
-    × Reads (bytes "2,1,0\r\n3,1,0\r\n6,1,0\r\n") (tasks (task 2 1 0 ∷ task 3 1 0 ∷ task 6 1 0 ∷ []))
-    × Reads (bytes "") (tasks [])
-    × Reads (bytes "\r\n") (badLine 1)
-    × Reads (bytes "2,1,0\r\n\r\n") (badLine 2)
-    × Reads (bytes "2,1,0\n3,1,0") (badLine 1)
-    × Reads (bytes "2,1,0\r3,1,0") (badLine 1)
-    × Reads (bytes "2,1,0\r\n3,1,0\r") (badLine 2)
-    × Reads (bytes "0,999999999,10") (tasks (task 0 999999999 10 ∷ []))
-    × Reads (bytes "1000000000,1,0") (badLine 1)
-    × Reads (bytes "02,1,0") (badLine 1)
-    × Reads (bytes "2,00,0") (badLine 1)
-    × Reads (bytes "2,1") (badLine 1)
-    × Reads (bytes "2,1,") (badLine 1)
-    × Reads (bytes "2,1,0,0") (badLine 1)
-    × Reads (bytes "2, 1,0") (badLine 1)
-    × Reads (bytes "-2,1,0") (badLine 1)
-    × Reads (bytes "\"2\",1,0") (badLine 1)
-    × Reads (bytes "2,1,0\r\nx\r\n3,1,0\r\ny") (badLine 2)
-    × Reads (times 299 (bytes "2,1,0\r\n") ++ bytes "x\r\n2,1,0") (badLine 300)
-unfolding fresh spoilt full withDigit withComma withByte complete begun taskOf kept closeGood closeAs closeLine plain lineAfter readAfter atEnd scan nothing parsedOf listOf taskAt noTask overwrite choose
+    Reads (bytes "2,1,0\r\n3,1,0\r\n6,1,0") (accepted (task 2 1 0 ∷ task 3 1 0 ∷ task 6 1 0 ∷ []))
+    × Reads (bytes "2,1,0\r\n3,1,0\r\n6,1,0\r\n") (accepted (task 2 1 0 ∷ task 3 1 0 ∷ task 6 1 0 ∷ []))
+    × Reads (bytes "") (accepted [])
+    × Reads (bytes "\r\n") (refused 1)
+    × Reads (bytes "2,1,0\r\n\r\n") (refused 2)
+    × Reads (bytes "2,1,0\n3,1,0") (refused 1)
+    × Reads (bytes "2,1,0\r3,1,0") (refused 1)
+    × Reads (bytes "2,1,0\r\n3,1,0\r") (refused 2)
+    × Reads (bytes "0,999999999,10") (accepted (task 0 999999999 10 ∷ []))
+    × Reads (bytes "1000000000,1,0") (refused 1)
+    × Reads (bytes "02,1,0") (refused 1)
+    × Reads (bytes "2,00,0") (refused 1)
+    × Reads (bytes "2,1") (refused 1)
+    × Reads (bytes "2,1,") (refused 1)
+    × Reads (bytes "2,1,0,0") (refused 1)
+    × Reads (bytes "2, 1,0") (refused 1)
+    × Reads (bytes "-2,1,0") (refused 1)
+    × Reads (bytes "\"2\",1,0") (refused 1)
+    × Reads (bytes "2,1,0\r\nx\r\n3,1,0\r\ny") (refused 2)
+    × Reads (times 299 (bytes "2,1,0\r\n") ++ bytes "x\r\n2,1,0") (refused 300)
+unfolding paper numbers accepted refused fresh spoilt full withDigit withComma withByte complete begun taskOf kept closeGood closeAs closeLine isPair withHeld plain lineAfter readAfter atEnd scan nothing parsedOf listOf taskAt noTask overwrite choose
 worked = (
   parsed-reads _,
   parsed-reads _,

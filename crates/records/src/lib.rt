@@ -3,8 +3,8 @@ ghost use mathlib.Core.Path.{_≡_};
 ghost use mathlib.Core.List.{[]};
 ghost use Prim.Native.Nat.{_≤_, _<_};
 ghost use Rattle.tasks.specs.List.{listOf};
-ghost use Rattle.records.specs.Grammar.{Reads};
-ghost use Rattle.records.specs.Shapes.{fresh, spoilt, full, withDigit, withComma, withByte, complete, begun, kept, closeGood, closeLine, plain, lineAfter, readAfter, atEnd};
+ghost use Rattle.records.specs.Grammar.{paper, Reads};
+ghost use Rattle.records.specs.Shapes.{fresh, spoilt, full, withDigit, withComma, withByte, complete, begun, kept, closeGood, closeLine, isPair, withHeld, plain, lineAfter, readAfter, atEnd};
 use tasks::Task;
 use tasks::TaskList;
 
@@ -55,14 +55,10 @@ fn spoilt_line() -> Line
 }
 
 // No digit may follow: the field is "0", or has nine digits.
-fn is_full(digits: bool, value: u32) -> bool
-    ensures { λ r. ⌜ r ≡ full digits value ⌝ }
+fn is_full(seen: bool, value: u32) -> bool
+    ensures { λ r. ⌜ r ≡ full seen value ⌝ }
 {
-    if value == 0 {
-        digits
-    } else {
-        100000000 <= value
-    }
+    if value == 0 { seen } else { 100000000 <= value }
 }
 
 fn with_digit(line: Line, digit: u32) -> Line
@@ -214,7 +210,20 @@ fn close_line(read: Parsed, line: Line) -> Parsed
     }
 }
 
-// A CR is kept back until the next byte tells whether the pair parts the lines.
+// A CR is held back until the next byte tells whether the pair parts the lines.
+fn is_pair(held: bool, byte: u8) -> bool
+    ensures { λ r. ⌜ r ≡ isPair held byte ⌝ }
+{
+    if byte == 10 { held } else { false }
+}
+
+// A CR that was held back and stands alone after all.
+fn with_held(line: Line, held: bool) -> Line
+    ensures { λ r. ⌜ r ≡ withHeld line held ⌝ }
+{
+    if held { spoilt_line() } else { line }
+}
+
 fn with_plain(line: Line, byte: u8) -> Line
     ensures { λ r. ⌜ r ≡ plain line byte ⌝ }
 {
@@ -225,47 +234,39 @@ fn with_plain(line: Line, byte: u8) -> Line
     }
 }
 
-fn line_after(line: Line, pending: bool, byte: u8) -> Line
-    ensures { λ r. ⌜ r ≡ lineAfter line pending byte ⌝ }
+fn line_after(line: Line, held: bool, byte: u8) -> Line
+    ensures { λ r. ⌜ r ≡ lineAfter line held byte ⌝ }
 {
-    if pending {
-        if byte == 10 {
-            return fresh_line();
-        }
-        return with_plain(spoilt_line(), byte);
+    if is_pair(held, byte) {
+        return fresh_line();
     }
-    with_plain(line, byte)
+    with_plain(with_held(line, held), byte)
 }
 
-fn read_after(read: Parsed, line: Line, pending: bool, byte: u8) -> Parsed
+fn read_after(read: Parsed, line: Line, held: bool, byte: u8) -> Parsed
     requires { ⌜ read .list .count < 18446744073709551615 ⌝ }
-    ensures { λ r. ⌜ r ≡ readAfter read line pending byte ⌝ }
+    ensures { λ r. ⌜ r ≡ readAfter read line held byte ⌝ }
 {
-    if pending {
-        if byte == 10 {
-            return close_line(read, line);
-        }
-        return read;
-    }
-    read
-}
-
-// What follows the last CRLF is one line more, unless it is nothing.
-fn at_end(read: Parsed, line: Line, pending: bool) -> Parsed
-    requires { ⌜ read .list .count < 18446744073709551615 ⌝ }
-    ensures { λ r. ⌜ r ≡ atEnd read line pending ⌝ }
-{
-    if pending {
-        return close_line(read, spoilt_line());
-    }
-    if is_begun(line) {
+    if is_pair(held, byte) {
         return close_line(read, line);
     }
     read
 }
 
+// What follows the last CRLF is one line more, unless it is nothing.
+fn at_end(read: Parsed, line: Line, held: bool) -> Parsed
+    requires { ⌜ read .list .count < 18446744073709551615 ⌝ }
+    ensures { λ r. ⌜ r ≡ atEnd read line held ⌝ }
+{
+    let last = with_held(line, held);
+    if is_begun(last) {
+        return close_line(read, last);
+    }
+    read
+}
+
 pub fn read_list(input: &[u8]) -> Parsed
-    ensures { λ r. ⌜ Reads (now (input .entry)) r ⌝ }
+    ensures { λ r. ⌜ Reads (now (input .entry)) (paper r) ⌝ }
 {
     let none = no_tasks();
     let mut read = Parsed {
@@ -273,16 +274,16 @@ pub fn read_list(input: &[u8]) -> Parsed
         list: none,
     };
     let mut line = fresh_line();
-    let mut pending = false;
+    let mut held = false;
     let mut i = 0;
     while i < input.len() {
         let byte = input[i];
-        let next_read = read_after(read, line, pending, byte);
-        let next_line = line_after(line, pending, byte);
+        let next_read = read_after(read, line, held, byte);
+        let next_line = line_after(line, held, byte);
         read = next_read;
         line = next_line;
-        pending = byte == 13;
+        held = byte == 13;
         i += 1;
     }
-    at_end(read, line, pending)
+    at_end(read, line, held)
 }

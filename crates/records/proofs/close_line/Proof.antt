@@ -1,4 +1,5 @@
 -- `records::close_line` meets its contract.
+use mathlib.Core.Path.{sym}
 use Rattle.records.specs.Shapes.{good-closes, bad-stays}
 use borrow.Author.Needs.{needs}
 use Rattle.records.proofs.close_line.Statement.{statement}
@@ -18,8 +19,7 @@ returns c =
     let a = c .before .before .before .before .args in cc (good-closes (a .read) (a .line) (cc))
 
 returns-2 : tie.Need-returns-2
-returns-2 c =
-    let a = c .before .before .before .args in cc (bad-stays (a .read) (a .line) (c .enum-told2 .given .0 .0) (c .enum-told2 .given .1))
+returns-2 c = sym (bad-stays (c .before .before .before .args .read) _ _ (c .enum-told2 .given .1))
 
 pub close-line-spec : {M : Type 1} → statement M
 close-line-spec = tie.close (tie.spec enum-told close-good-requires enum-told-2 returns returns-2)

@@ -2,8 +2,9 @@
 use Prim.Native.Nat.{_≤_, _-_}
 use mathlib.Core.Path.{_≡_, subst, sym}
 use native.Mathlib.Omega.{arith}
-use lib.ListN.{length, drop, getD}
-use Rattle.records.specs.Grammar.{Reads}
+use lib.ListN.{length, drop}
+use Rattle.records.specs.Grammar.{paper, Reads}
+use Rattle.records.specs.declared.Parsed.{Parsed}
 use Rattle.records.specs.Shapes.{scan, parsedOf}
 use Rattle.records.specs.Reading.{parsed-reads}
 use Rattle.records.proofs.Turns.{Counted, no-byte-yet, one-byte-more, no-byte-more, none-counted, counted-on}
@@ -11,11 +12,11 @@ use Rattle.records.proofs.read_list.Statement.{statement}
 use Rattle.records.proofs.read_list.Tie as tie
 
 abbrev Inv-loop : tie.InvT-loop
-Inv-loop input read₀ line₀ pending₀ i₀ read line pending i =
-    (i ≤ length input) × (scan read line pending (drop i input) ≡ parsedOf input) × Counted i read pending
+Inv-loop input read₀ line₀ held₀ i₀ read line held i =
+    (i ≤ length input) × (scan read line held (drop i input) ≡ parsedOf input) × Counted i read held
 
 abbrev μ-loop : tie.MeasureT-loop
-μ-loop input read₀ line₀ pending₀ i₀ read line pending i =
+μ-loop input read₀ line₀ held₀ i₀ read line held i =
     length input - i
 
 no-tasks-requires : tie.Need-no-tasks-requires Inv-loop μ-loop
@@ -47,8 +48,8 @@ loop-again c =
     let turn = c .before .before .before .before .loop in
     let input = c .before .before .before .before .before .before .before .before .args .input .now in (
       omega arith,
-      one-byte-more input (turn .i) _ _ _ _ _ _ (omega arith) (turn .inv .1) (cc) (cc),
-      counted-on _ _ _ (turn .line) _ (getD input (turn .i) 0) (turn .inv .2) (cc),
+      one-byte-more input (turn .i) _ _ _ _ _ _ (omega arith) (turn .inv .1) (c .before .read-after .ensures) (c .line-after .ensures),
+      counted-on _ _ _ _ _ _ (turn .inv .2) (c .before .read-after .ensures),
     )
 
 at-end-requires : tie.Need-at-end-requires Inv-loop μ-loop
@@ -58,7 +59,7 @@ returns : tie.Need-returns Inv-loop μ-loop
 returns c =
     let end = c .before .before .loop in
     let input = c .before .before .before .before .before .before .args .input .now in
-    subst (Reads input) (sym (no-byte-more input (end .i) _ _ _ _ _ (omega arith) (end .inv .1) (c .at-end .ensures))) (parsed-reads input)
+    subst (λ (r : Parsed). Reads input (paper r)) (sym (no-byte-more input (end .i) _ _ _ _ _ (omega arith) (end .inv .1) (c .at-end .ensures))) (parsed-reads input)
 
 pub read-list-spec : {M : Type 1} → statement M
 read-list-spec =

@@ -15,7 +15,8 @@ spoilt-line-requires c κs = search needs
 
 returns : tie.Need-returns
 unfolding withDigit
-returns c = yes-so _ _ _ _ (cc) (c .spoilt-line .ensures)
+returns c =
+    yes-so _ _ _ _ (sym (c .before .before .is-full .ensures) ∙ c .before .if1 .taken) (c .spoilt-line .ensures)
 
 mul-t5 : tie.Need-mul-t5
 mul-t5 c = omega (arith, not-full _ _ (sym (c .before .is-full .ensures) ∙ c .if1 .left))
@@ -25,7 +26,7 @@ add-t6 c = omega (arith, not-full _ _ (sym (c .before .is-full .ensures) ∙ c .
 
 returns-2 : tie.Need-returns-2
 unfolding withDigit
-returns-2 c = no-so _ _ _ _ (cc) refl
+returns-2 c = no-so _ _ _ _ (sym (c .before .is-full .ensures) ∙ c .if1 .left) refl
 
 pub with-digit-spec : {M : Type 1} → statement M
 with-digit-spec =
