@@ -13,8 +13,7 @@ use Rattle.verdict.specs.declared.Verdict.the-variants.{Accepted, Refused}
 use Rattle.verdict.specs.Verdict.{verdictOf}
 use Rattle.records.specs.declared.Form.{Form}
 use Rattle.records.specs.declared.Form.the-variants.{Good, Bad}
-use Rattle.records.specs.declared.Parsed.{Parsed}
-use Rattle.records.specs.Grammar.{Reads}
+use Rattle.records.specs.Grammar.{Answer, Reads}
 use Rattle.printing.specs.Text.{refusalText, tableText}
 use Rattle.printing.specs.Written.{Written}
 
@@ -34,11 +33,11 @@ entries l cycle = overwrite (table (planOf l)) cycle (replicate cycle 0)
 -- The supply is 65,536.
 pub data Prints (input : List ℕ) : List ℕ → Type 0 where
   too-long : 4096 < length input → Prints input (refusalText 16 0 (pos 0))
-  bad-line : {p : Parsed} {line : ℕ} → length input ≤ 4096 → Reads input p → p .form ≡ Bad line → Prints input (refusalText 15 line (pos 0))
-  refused : {p : Parsed} {number task : ℕ} {margin : ℤ} → length input ≤ 4096 → Reads input p → p .form ≡ Good
-      → verdictOf (p .list) 65536 ≡ Refused number task margin → Prints input (refusalText number task margin)
-  accepted : {p : Parsed} {cycle jobs task : ℕ} {margin : ℤ} → length input ≤ 4096 → Reads input p → p .form ≡ Good
-      → verdictOf (p .list) 65536 ≡ Accepted cycle jobs task margin → Prints input (tableText (entries (p .list) cycle))
+  bad-line : {a : Answer} → length input ≤ 4096 → Reads input a → a .refusal ≡ 15 → Prints input (refusalText 15 (a .line) (pos 0))
+  refused : {a : Answer} {number task : ℕ} {margin : ℤ} → length input ≤ 4096 → Reads input a → a .refusal ≡ 0
+      → verdictOf (a .list) 65536 ≡ Refused number task margin → Prints input (refusalText number task margin)
+  accepted : {a : Answer} {cycle jobs task : ℕ} {margin : ℤ} → length input ≤ 4096 → Reads input a → a .refusal ≡ 0
+      → verdictOf (a .list) 65536 ≡ Accepted cycle jobs task margin → Prints input (tableText (entries (a .list) cycle))
 
 -- The text stands in the lent bytes from the first on, and the answer is its length.
 pub record Answers (input old new : List ℕ) (r : ℕ) : Type 0 where

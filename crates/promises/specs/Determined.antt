@@ -31,9 +31,14 @@ use Rattle.units.specs.Conversion.{paper, runtimeOf, periodOf}
 use Rattle.units.specs.Laws.{paper-tells}
 use Rattle.records.specs.declared.Parsed.{Parsed}
 use Rattle.records.specs.Grammar.{Reads}
+use Rattle.records.specs.Grammar.{paper as readPaper}
 use Rattle.records.specs.Reading.{reads-one}
 use Rattle.printing.specs.Text.{refusalText, tableText}
 use Rattle.printing.specs.Written.{Written, written-one}
+use Rattle.tasks.specs.declared.Task.{Task}
+use Rattle.bench.specs.declared.Driven.{Driven}
+use Rattle.bench.specs.Course.{Course, SliceClosed, courseAt}
+use Rattle.bench.specs.Drive.{taskIn, begun, Drives}
 
 -- what equals one thing is one thing
 same : {A : Type 0} {x r r′ : A} → r ≡ x → r′ ≡ x → r ≡ r′
@@ -86,8 +91,8 @@ pub period-slices : (micros slice : ℕ) (r r′ : Slices) → paper r ≡ perio
 period-slices micros slice r r′ e e′ = paper-tells r r′ (same e e′)
 
 -- records: read_list
-pub read-list : (input : List ℕ) (r r′ : Parsed) → Reads input r → Reads input r′ → r ≡ r′
-read-list input r r′ R R′ = reads-one R R′
+pub read-list : (input : List ℕ) (r r′ : Parsed) → Reads input (readPaper r) → Reads input (readPaper r′) → r ≡ r′
+read-list input r r′ R R′ = reads-one r r′ R R′
 
 -- printing: write_refusal, write_table, with the lent bytes
 pub write-refusal : (number task : ℕ) (margin : ℤ) (old new new′ : List ℕ) (r r′ : ℕ)
@@ -97,3 +102,35 @@ write-refusal number task margin old new new′ r r′ W W′ = written-one W W�
 pub write-table : (table : List ℕ) (cycle : ℕ) (old new new′ : List ℕ) (r r′ : ℕ)
     → Written (tableText (take cycle table)) old new r → Written (tableText (take cycle table)) old new′ r′ → (r ≡ r′) × (new ≡ new′)
 write-table table cycle old new new′ r r′ W W′ = written-one W W′
+
+-- bench: task_in; close_slice and drive, with the lent bytes and ends
+pub task-in : (period runtime memory slice : ℕ) (r r′ : Task) → r ≡ taskIn period runtime memory slice → r′ ≡ taskIn period runtime memory slice → r ≡ r′
+task-in period runtime memory slice r r′ e e′ = same e e′
+
+pub close-slice : (table needs : List ℕ) (c : Course) (log log′ ends ends′ : List ℕ) (r r′ : Next)
+    → SliceClosed table needs c log ends r → SliceClosed table needs c log′ ends′ r′ → (r ≡ r′) × (log ≡ log′) × (ends ≡ ends′)
+close-slice table needs c log log′ ends ends′ r r′ S S′ =
+    let after = same (S .after) (S′ .after) in (
+      ap₂ (λ (a : Closed) (x : State). record { answer = a; state = x }) (same (S .answer) (S′ .answer)) (ap (λ (x : Course). x .state) after),
+      ap (λ (x : Course). x .log) after,
+      ap (λ (x : Course). x .ends) after,
+    )
+
+pub record SameDrive (table table′ log log′ ends ends′ : List ℕ) (r r′ : Driven) : Type 0 where
+  pub answer : r ≡ r′
+  pub table-same : table ≡ table′
+  pub log-same : log ≡ log′
+  pub ends-same : ends ≡ ends′
+
+pub drive : (l : TaskList) (supply : ℕ) (asked : Asked) (clock : ℕ) (needs table new new′ log log₁ log₂ ends ends₁ ends₂ : List ℕ) (r r′ : Driven)
+    → Drives l supply asked clock needs table new log log₁ ends ends₁ r → Drives l supply asked clock needs table new′ log log₂ ends ends₂ r′ → SameDrive new new′ log₁ log₂ ends₁ ends₂ r r′
+drive l supply asked clock needs table new new′ log log₁ log₂ ends ends₁ ends₂ r r′ D D′ =
+    let built = build l supply table new new′ (r .built) (r′ .built) (D .built) (D′ .built) in
+    let whole : _≡_ {A = Course} (record { state = r .state; log = log₁; ends = ends₁ }) (record { state = r′ .state; log = log₂; ends = ends₂ }) =
+    D .whole ∙ ap (λ (t : List ℕ). courseAt t needs (begun l supply asked clock log ends) (begun l supply asked clock log ends .state .cycle)) (built .1) ∙ sym (D′ .whole) in
+    record {
+      answer = rw (built .0, same (D .started) (D′ .started), ap (λ (x : Course). x .state) whole);
+      table-same = built .1;
+      log-same = ap (λ (x : Course). x .log) whole;
+      ends-same = ap (λ (x : Course). x .ends) whole;
+    }

@@ -31,7 +31,7 @@ same-length-2 : tie.Need-same-length-2
 same-length-2 c = search needs
 
 returns-2 : tie.Need-returns-2
-returns-2 c = (answers-bad-line _ _ (c .before .before .before .before .before .before .before .if1 .left) (c .before .before .before .before .before .before .read-list .ensures) (c .before .before .before .before .enum-told2 .given .1) (c .before .before .refuse-form .ensures .0), omega (arith, c .before .before .refuse-form .ensures .1))
+returns-2 c = (answers-bad-line _ (c .before .before .before .before .before .before .before .if1 .left) (c .before .before .before .before .before .before .read-list .ensures) _ (c .before .before .before .before .enum-told2 .given .1) (c .before .before .refuse-form .ensures .0), omega (arith, c .before .before .refuse-form .ensures .1))
 
 judge-requires : tie.Need-judge-requires
 judge-requires c κs = search needs
@@ -49,7 +49,7 @@ same-length-3 : tie.Need-same-length-3
 same-length-3 c = search needs
 
 returns-3 : tie.Need-returns-3
-returns-3 c = (answers-refused _ (c .before .before .before .before .before .before .before .before .enum-told .given .1) (c .before .before .before .before .before .before .before .before .before .before .before .if1 .left) (c .before .before .before .before .before .before .before .before .before .before .read-list .ensures) _ (c .before .before .before .before .before .before .judge .ensures) _ _ _ (c .before .before .before .before .enum-told3 .given .1) (c .before .before .refuse-list .ensures .0), omega (arith, c .before .before .refuse-list .ensures .1))
+returns-3 c = (answers-refused _ (c .before .before .before .before .before .before .before .before .before .before .before .if1 .left) (c .before .before .before .before .before .before .before .before .before .before .read-list .ensures) (c .before .before .before .before .before .before .before .before .enum-told .given .1) _ (c .before .before .before .before .before .before .judge .ensures) _ _ _ (c .before .before .before .before .enum-told3 .given .1) (c .before .before .refuse-list .ensures .0), omega (arith, c .before .before .refuse-list .ensures .1))
 
 build-requires : tie.Need-build-requires
 build-requires c κs = search needs
