@@ -1,0 +1,2 @@
+-- What the lent form of a list comes to.
+pub mod Shapes

@@ -1,0 +1,73 @@
+// The public functions over a task list that is lent as a run of records.
+ghost use mathlib.Core.Path.{_≡_};
+ghost use mathlib.Core.List.{[]};
+ghost use Prim.Native.Nat.{_<_};
+ghost use Rattle.lent.specs.Shapes.{filled, withTask};
+ghost use Rattle.tasks.specs.List.{taskAt, listOf};
+ghost use Rattle.verdict.specs.Verdict.{verdictOf};
+use tasks::Task;
+use tasks::TaskList;
+use verdict::Verdict;
+
+// The record at a place; past the end, the record of no task.
+fn task_or(tasks: &[Task], i: usize) -> Task
+    ensures { λ r. ⌜ r ≡ taskAt (now (tasks .entry)) i ⌝ }
+{
+    if i < tasks.len() {
+        tasks[i]
+    } else {
+        Task {
+            period: 0,
+            runtime: 0,
+            memory: 0,
+        }
+    }
+}
+
+// A list of places that hold no task yet.
+fn empty(count: usize) -> TaskList
+    ensures { λ r. ⌜ r ≡ filled [] 0 count ⌝ }
+{
+    TaskList {
+        tasks: [Task {
+            period: 0,
+            runtime: 0,
+            memory: 0,
+        }; 16],
+        count,
+    }
+}
+
+// The list with a task at a place.
+fn with_task(list: TaskList, i: usize, task: Task) -> TaskList
+    requires { ⌜ i < 16 ⌝ }
+    ensures { λ r. ⌜ r ≡ withTask list i task ⌝ }
+{
+    let mut tasks = list.tasks;
+    tasks[i] = task;
+    TaskList {
+        tasks,
+        count: list.count,
+    }
+}
+
+// The first 16 records, by value, and how many there are.
+fn copied(tasks: &[Task]) -> TaskList
+    ensures { λ r. ⌜ r ≡ listOf (now (tasks .entry)) ⌝ }
+{
+    let mut list = empty(tasks.len());
+    let mut i = 0;
+    while i < 16 {
+        let next = with_task(list, i, task_or(tasks, i));
+        list = next;
+        i += 1;
+    }
+    list
+}
+
+// The verdict on a lent list.
+pub fn judge_lent(tasks: &[Task], supply: u32) -> Verdict
+    ensures { λ r. ⌜ r ≡ verdictOf (listOf (now (tasks .entry))) supply ⌝ }
+{
+    verdict::judge(copied(tasks), supply)
+}
