@@ -1,7 +1,7 @@
 -- Shaped like the code, for private contracts alone: the list as the copying loop fills it, tied to the list of Tasks.
 use mathlib.Core.Path.{_≡_, refl}
 use mathlib.Core.List.{List, []}
-use Prim.Native.Nat.{ℕ, suc, _+_}
+use Prim.Native.Nat.{ℕ, suc}
 use lib.ListN.{length, replicate, set}
 use Rattle.basis.specs.Bytes.{overwrite}
 use Rattle.tasks.specs.declared.Task.{Task}
@@ -14,6 +14,11 @@ filled ts n count = record { tasks = overwrite (taskAt ts) n (replicate 16 noTas
 
 unfoldable pub withTask : TaskList → ℕ → Task → TaskList
 withTask l i t = record { tasks = set (l .tasks) i t; count = l .count }
+
+-- No place filled, the records do not matter.
+pub filled-none : (ts : List Task) (count : ℕ) → filled [] 0 count ≡ filled ts 0 count
+unfolding filled overwrite
+filled-none ts count = refl
 
 -- One more place filled.
 pub filled-next : (ts : List Task) (n count : ℕ) → withTask (filled ts n count) n (taskAt ts n) ≡ filled ts (suc n) count
