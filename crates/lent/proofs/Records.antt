@@ -24,12 +24,18 @@ use denote.Enum.Laws as EL
 use Rattle.tasks.specs.declared.Task.{Task}
 use Rattle.tasks.specs.declared.TaskList.{TaskList}
 use Rattle.verdict.specs.declared.Verdict.{Verdict}
+use Rattle.start.specs.declared.Asked.{Asked}
+use Rattle.start.specs.declared.Started.{Started}
 use Rattle.tasks.proofs.Task as T
 use Rattle.tasks.proofs.Task.Laws as T′
 use Rattle.tasks.proofs.TaskList as L
 use Rattle.tasks.proofs.TaskList.Laws as L′
 use Rattle.verdict.proofs.Verdict as N
 use Rattle.verdict.proofs.Verdict.Laws as N′
+use Rattle.start.proofs.Asked as Q
+use Rattle.start.proofs.Asked.Laws as Q′
+use Rattle.start.proofs.Started as S
+use Rattle.start.proofs.Started.Laws as S′
 
 -- ---- machine types
 abbrev pub word : Ty
@@ -48,6 +54,13 @@ Records κ x = ShrSlice (named 0) κ T.the-row .own x (recordsVal x ∷ [])
 pub records-typed : (x : RefT (List Task)) → Room T.the-row (length (x .now)) → Holds (hasTy recordsTy (recordsVal x)) × WT (recordsVal x)
 records-typed x g = (tt, (tt, (record { fits = g .0 }, tt)))
 
+-- ---- what a start is asked for
+abbrev pub askedVal : Asked → Val
+askedVal a = EL.val Q.the-type Q′.the-laws a
+
+abbrev pub AskedIs : Asked → Type 0
+AskedIs a = Is Q.the-row a (askedVal a ∷ [])
+
 -- ---- values: what lies in a local has its type
 module _ {M : Type 1} (𝓤 : URA M) (H : Heap 𝓤) (A : Atoms 𝓤) (W : Given 𝓤 H A) where
   pub task-typed : (t : Task) (v : Val) → Is T.the-row t (v ∷ []) → Holds (hasTy T′.mir v) × WT v
@@ -59,10 +72,19 @@ module _ {M : Type 1} (𝓤 : URA M) (H : Heap 𝓤) (A : Atoms 𝓤) (W : Given
   pub verdict-typed : (r : Verdict) (v : Val) → Is N.the-row r (v ∷ []) → Holds (hasTy N′.mir v) × WT v
   verdict-typed r v is = EL.lawful N.the-type N′.the-laws 𝓤 H A W tt .typed r (v ∷ []) is .0
 
--- ---- numbers own nothing, so what they own is had at any time
+  pub asked-typed : (a : Asked) → AskedIs a → Holds (hasTy Q′.mir (askedVal a)) × WT (askedVal a)
+  asked-typed a is = EL.lawful Q.the-type Q′.the-laws 𝓤 H A W tt .typed a (askedVal a ∷ []) is .0
+
+  pub started-typed : (r : Started) (v : Val) → Is S.the-row r (v ∷ []) → Holds (hasTy S′.mir v) × WT v
+  started-typed r v is = LL.lawful S.the-type S′.the-laws 𝓤 H A W .typed r (v ∷ []) is .0
+
+-- ---- numbers and cases own facts alone, so what they own is had at any time
 module _ {M : Type 1} {𝓤 : URA M} {H : Heap 𝓤} {A : Atoms 𝓤} {K : Type 0} {W : Given 𝓤 H A} {Γ : List (Item 𝓤)} {G : Goal 𝓤 H} where
   pub has-u32 : K → (n : ℕ) → n < 2 ^ 32 → Step K W (‵ (u32 .own n (vint w32 n ∷ [])) ∷ Γ) G Γ G
   has-u32 t n g = owned t u32 (Is u32) (uint-makes 𝓤 H A W w32) n (vint w32 n ∷ []) (refl, g)
 
   pub has-usize : K → (n : ℕ) → n < 2 ^ 64 → Step K W (‵ (usize .own n (vint w64 n ∷ [])) ∷ Γ) G Γ G
   has-usize t n g = owned t usize (Is usize) (uint-makes 𝓤 H A W w64) n (vint w64 n ∷ []) (refl, g)
+
+  pub has-asked : K → (a : Asked) → AskedIs a → Step K W (‵ (Q.the-row .own a (askedVal a ∷ [])) ∷ Γ) G Γ G
+  has-asked t a is = owned t Q.the-row (Is Q.the-row) (EL.makes Q.the-type Q′.the-plain 𝓤 H A) a (askedVal a ∷ []) is
