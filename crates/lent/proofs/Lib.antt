@@ -3,3 +3,4 @@ pub mod Parameters
 pub mod Records
 pub mod Calling
 pub mod Copying
+pub mod Lending

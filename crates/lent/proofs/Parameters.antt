@@ -14,6 +14,8 @@ use contract.Lifetimes.{Lfts, Shares, Outlives, AllOutlive}
 use sound.WpLaws.{WpFn-mono}
 use types.Kit.{Given}
 use denote.RattleType.{RattleType, flat}
+use denote.Array.{Array, array-vals, array-tells}
+use denote.Struct.Laws as LL
 use denote.Laws.{Is, Ises, Are, Tells, Tellss, Spells, valss}
 use denote.Plain.{UInt, uint-vals, uint-tells}
 use denote.Builtin.{u8}
@@ -26,6 +28,7 @@ use denote.Triple.Entry.{Args, onEntry}
 use denote.Triple.Spec.{Meets}
 use denote.Triple.Walked.{Stay, Stays, stay-none, stay-none-slice, gave-slice, Goes, AllGo, goes-none, goes-none-slice, goes-gave-slice, walkOf, walked, walk-meets}
 use Rattle.tasks.proofs.Task as T
+use Rattle.tasks.proofs.Task.Laws as T′
 
 pub record Param (n : ℕ) : Type 2 where
   pub slot : Slot n
@@ -49,6 +52,10 @@ module _ {n : ℕ} where
 
   abbrev pub number : Width → Param n
   number w = value (UInt w) (uint-vals w) (uint-tells w) (λ x f. refl)
+
+  -- seventeen places by value
+  abbrev pub places : Param n
+  places = value (Array T.the-row 17) (array-vals (LL.vals T.the-type T′.the-laws)) (array-tells T.the-row (LL.vals T.the-type T′.the-laws) (LL.tells T.the-type T′.the-laws) 17) (λ x f. refl)
 
   -- a lent run of records
   abbrev pub records : (j : ℕ) → AllWithin n (j ∷ []) → Param n

@@ -1,7 +1,8 @@
 // The public functions over a task list that is lent as a run of records.
 ghost use mathlib.Core.Path.{_≡_};
 ghost use mathlib.Core.List.{[]};
-ghost use Prim.Native.Nat.{_<_};
+ghost use Prim.Native.Nat.{_<_, _≤_};
+ghost use lib.ListN.{take};
 ghost use Rattle.lent.specs.Shapes.{filled, withTask};
 ghost use Rattle.tasks.specs.List.{taskAt, listOf};
 ghost use Rattle.verdict.specs.Verdict.{verdictOf};
@@ -76,6 +77,14 @@ pub fn judge_lent(tasks: &[Task], supply: u32) -> Verdict
     verdict::judge(copied(tasks), supply)
 }
 
+// The verdict on the first so many of seventeen places, which are lent.
+fn judge_first(tasks: [Task; 17], count: usize, supply: u32) -> Verdict
+    requires { ⌜ count ≤ 17 ⌝ }
+    ensures { λ r. ⌜ r ≡ verdictOf (listOf (take count tasks)) supply ⌝ }
+{
+    judge_lent(&tasks[..count], supply)
+}
+
 // Building the table of a lent list.
 pub fn build_lent(tasks: &[Task], supply: u32, table: &mut [u8]) -> Verdict
     ensures { λ r. ⌜ Built (listOf (now (tasks .entry))) supply (now (table .entry)) (now (table .exit)) r ⌝ }
@@ -83,9 +92,30 @@ pub fn build_lent(tasks: &[Task], supply: u32, table: &mut [u8]) -> Verdict
     verdict::build(copied(tasks), supply, table)
 }
 
+fn build_first(tasks: [Task; 17], count: usize, supply: u32, table: &mut [u8]) -> Verdict
+    requires { ⌜ count ≤ 17 ⌝ }
+    ensures { λ r. ⌜ Built (listOf (take count tasks)) supply (now (table .entry)) (now (table .exit)) r ⌝ }
+{
+    build_lent(&tasks[..count], supply, table)
+}
+
 // Starting a run of a lent list.
 pub fn start_lent(tasks: &[Task], supply: u32, asked: Asked, clock: u32, log: &mut [u8]) -> Started
     ensures { λ r. ⌜ Begins (listOf (now (tasks .entry))) supply asked clock (now (log .entry)) (now (log .exit)) r ⌝ }
 {
     start::start(copied(tasks), supply, asked, clock, log)
+}
+
+fn start_first(
+    tasks: [Task; 17],
+    count: usize,
+    supply: u32,
+    asked: Asked,
+    clock: u32,
+    log: &mut [u8],
+) -> Started
+    requires { ⌜ count ≤ 17 ⌝ }
+    ensures { λ r. ⌜ Begins (listOf (take count tasks)) supply asked clock (now (log .entry)) (now (log .exit)) r ⌝ }
+{
+    start_lent(&tasks[..count], supply, asked, clock, log)
 }
