@@ -166,3 +166,18 @@ module _ (l : TaskList) (supply : ℕ) where
         state = b .state ∙ state-lent asked clock (length log) ∙ ap (λ (v : Verdict). begunState l asked clock v (length log)) (verdict-lent l supply);
         bytes = b .bytes ∙ ap (λ (v : Verdict). begunLog v log) (verdict-lent l supply);
       }
+
+-- ---- the same as the code has it: so many of so many places
+module _ (l : TaskList) (supply : ℕ) (ts : List Task) (n : ℕ) (et : ts ≡ seventeen l) (en : n ≡ lentCount (l .count)) where
+  lent-so : take n ts ≡ recordsOf l
+  unfolding recordsOf
+  lent-so = λ j. take (en j) (et j)
+
+  pub verdict-so : (r : Verdict) → r ≡ verdictOf (listOf (take n ts)) supply → r ≡ verdictOf l supply
+  verdict-so r e = e ∙ ap (λ (us : List Task). verdictOf (listOf us) supply) lent-so ∙ verdict-lent l supply
+
+  pub built-so : (old new : List ℕ) (r : Verdict) → Built (listOf (take n ts)) supply old new r → Built l supply old new r
+  built-so old new r b = built-lent l supply old new r (subst (λ (us : List Task). Built (listOf us) supply old new r) lent-so b)
+
+  pub begins-so : (asked : Asked) (clock : ℕ) (log log′ : List ℕ) (r : Started) → Begins (listOf (take n ts)) supply asked clock log log′ r → Begins l supply asked clock log log′ r
+  begins-so asked clock log log′ r b = begins-lent l supply asked clock log log′ r (subst (λ (us : List Task). Begins (listOf us) supply asked clock log log′ r) lent-so b)

@@ -4,6 +4,7 @@ ghost use mathlib.Core.List.{[]};
 ghost use Prim.Native.Nat.{_<_, _≤_};
 ghost use lib.ListN.{take};
 ghost use Rattle.lent.specs.Shapes.{filled, withTask};
+ghost use Rattle.lent.specs.Lent.{seventeen, lentCount};
 ghost use Rattle.tasks.specs.List.{taskAt, listOf};
 ghost use Rattle.verdict.specs.Verdict.{verdictOf};
 ghost use Rattle.verdict.specs.Table.{Built};
@@ -118,4 +119,57 @@ fn start_first(
     ensures { λ r. ⌜ Begins (listOf (take count tasks)) supply asked clock (now (log .entry)) (now (log .exit)) r ⌝ }
 {
     start_lent(&tasks[..count], supply, asked, clock, log)
+}
+
+// The sixteen places of a list and one more.
+fn seventeen_of(list: TaskList) -> [Task; 17]
+    ensures { λ r. ⌜ r ≡ seventeen list ⌝ }
+{
+    let tasks = list.tasks;
+    let mut places = [Task {
+        period: 0,
+        runtime: 0,
+        memory: 0,
+    }; 17];
+    let mut i = 0;
+    while i < 16 {
+        places[i] = tasks[i];
+        i += 1;
+    }
+    places
+}
+
+// As many places are lent as the count says, and 17 at most.
+fn lent_count(count: usize) -> usize
+    ensures { λ r. ⌜ r ≡ lentCount count ⌝ }
+{
+    if count < 17 { count } else { 17 }
+}
+
+// The verdict on a list by value, which is lent for it.
+pub fn judge_list(list: TaskList, supply: u32) -> Verdict
+    ensures { λ r. ⌜ r ≡ verdictOf list supply ⌝ }
+{
+    judge_first(seventeen_of(list), lent_count(list.count), supply)
+}
+
+// Building the table of a list by value, which is lent for it.
+pub fn build_list(list: TaskList, supply: u32, table: &mut [u8]) -> Verdict
+    ensures { λ r. ⌜ Built list supply (now (table .entry)) (now (table .exit)) r ⌝ }
+{
+    build_first(seventeen_of(list), lent_count(list.count), supply, table)
+}
+
+// Starting a run of a list by value, which is lent for it.
+pub fn start_list(list: TaskList, supply: u32, asked: Asked, clock: u32, log: &mut [u8]) -> Started
+    ensures { λ r. ⌜ Begins list supply asked clock (now (log .entry)) (now (log .exit)) r ⌝ }
+{
+    start_first(
+        seventeen_of(list),
+        lent_count(list.count),
+        supply,
+        asked,
+        clock,
+        log,
+    )
 }
