@@ -131,10 +131,10 @@ fn seventeen_of(list: TaskList) -> [Task; 17]
         runtime: 0,
         memory: 0,
     }; 17];
-    let mut i = 0;
-    while i < 16 {
-        places[i] = tasks[i];
-        i += 1;
+    let mut at = 0;
+    while at < 16 {
+        places[at] = tasks[at];
+        at += 1;
     }
     places
 }

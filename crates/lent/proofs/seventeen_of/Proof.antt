@@ -10,10 +10,10 @@ use Rattle.lent.proofs.seventeen_of.Statement.{statement}
 use Rattle.lent.proofs.seventeen_of.Tie as tie
 
 abbrev Inv-loop : tie.InvT-loop
-Inv-loop tasks places₀ i₀ places i = (i ≤ 16) × (places ≡ overwrite (taskAt tasks) i (replicate 17 noTask))
+Inv-loop tasks places₀ at₀ places at = (at ≤ 16) × (places ≡ overwrite (taskAt tasks) at (replicate 17 noTask))
 
 abbrev μ-loop : tie.MeasureT-loop
-μ-loop tasks places₀ i₀ places i = 16 - i
+μ-loop tasks places₀ at₀ places at = 16 - at
 
 loop-holds : tie.Need-loop-holds Inv-loop μ-loop
 unfolding overwrite noTask
@@ -31,8 +31,8 @@ mul-places-2 c = omega arith
 array-set-from-places : tie.Need-array-set-from-places Inv-loop μ-loop
 array-set-from-places c = omega arith
 
-add-i : tie.Need-add-i Inv-loop μ-loop
-add-i c = omega arith
+add-at : tie.Need-add-at Inv-loop μ-loop
+add-at c = omega arith
 
 loop-less : tie.Need-loop-less Inv-loop μ-loop
 loop-less c = omega arith
@@ -44,8 +44,8 @@ loop-again c = (omega arith, overwrite-next _ _ _ _ _ (c .before .before .loop .
 returns : tie.Need-returns Inv-loop μ-loop
 unfolding seventeen
 returns c =
-    let end : c .before .loop .i ≡ 16 = omega arith in
+    let end : c .before .loop .at ≡ 16 = omega arith in
     rw end at (c .before .loop .inv .1)
 
 pub seventeen-of-spec : {M : Type 1} → statement M
-seventeen-of-spec = tie.close (tie.spec Inv-loop μ-loop loop-holds mul-places array-copy-out-places mul-places-2 array-set-from-places add-i loop-less loop-again returns)
+seventeen-of-spec = tie.close (tie.spec Inv-loop μ-loop loop-holds mul-places array-copy-out-places mul-places-2 array-set-from-places add-at loop-less loop-again returns)
