@@ -17,7 +17,7 @@ use denote.Triple.Call.{calls-at}
 use denote.Triple.Clauses.{Clauses, Ended, Lasts, lasts, atExit, closing}
 use denote.Triple.Entry.{Res, alive}
 use denote.Triple.Spec.{tripleOf}
-use denote.Triple.Statement.{Contract, Triple}
+use denote.Triple.Statement.{Triple}
 
 module _ {M : Type 1} {𝓤 : URA M} {H : Heap 𝓤} {A : Atoms 𝓤} {K : Type 0} {W : Given 𝓤 H A} {Γ : List (Item 𝓤)} {E : Env 𝓤 H} {C : Calls 𝓤 H} {Λ : Loops 𝓤 H} {q : Post 𝓤 H} {f : Name} {xs : List Operand} {d : Place} {rest : Body} where
   -- Afterwards stand what the result owns, the tokens, and what is said of the last values.

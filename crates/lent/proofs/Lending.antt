@@ -14,7 +14,7 @@ use base.Logic.{ent, sep}
 use base.Fml.{GName, Fml, ftrue, fsep, fat, froom, flft, flent}
 use prog.Wp.{Heap}
 use ghost.Atoms.{Atoms, sem}
-use types.Kit.{Given, Item, ‵, _⊛_, some, later, Soaks, Goal, Seq, Step, step, _$_, _∵_, !, qed, move, drop, use1, use2, split, pick, fsplit, fjoin, feqI, feqL, frame, await, done}
+use types.Kit.{Given, Item, ‵, _⊛_, some, later, Soaks, Goal, Seq, Step, step, _$_, _∵_, !, qed, move, drop, use1, use2, split, pick, fsplit, fjoin, feqI, frame, await, done}
 use types.Run.{forget}
 use types.Share.{arr-parts}
 use types.Tokens.{lft-new, lft-end, lent-back}

@@ -1,5 +1,5 @@
 -- Places beyond the task count do not matter: two lists of one count whose tasks are the same give the same bounds, verdict, table and timings.
-use mathlib.Core.Path.{_≡_, refl, sym, ap, _∙_}
+use mathlib.Core.Path.{_≡_, refl, ap, _∙_}
 use mathlib.Core.Bool.{Bool, _&&_, _||_}
 use mathlib.Core.List.{List}
 use mathlib.Core.Logic.{⊎-elim}
@@ -11,7 +11,7 @@ use lib.ListN.{replicate}
 use Rattle.basis.specs.Bytes.{overwrite, overwrite-same}
 use Rattle.basis.specs.Choose.{choose, choose-either}
 use Rattle.basis.specs.Least.{least}
-use Rattle.basis.specs.Sum.{sum, sum-ext}
+use Rattle.basis.specs.Sum.{sum-ext}
 use Rattle.plan.specs.Plan.{Plan, job, age, keyIn, wants, pick, gets, had, entry, table, given, first, ranksBefore, IsFirst, NoneWants, FirstTask}
 use Rattle.plan.specs.Rank.{first-law, first-ext}
 use Rattle.tasks.specs.declared.Task.{Task}
@@ -24,13 +24,11 @@ use Rattle.tasks.specs.Euclid.{lcmOf}
 use Rattle.tasks.specs.Bounds.{multiple, memorySum, jobSum, cycleOf, jobsOf, refusal, none, _orElse_, firstFound, ofCount, ofNumbers, ofTask, ofMemory, ofCycle, found, answer, boundsOf}
 use Rattle.tasks.specs.Kept.{kept-tells}
 use Rattle.verdict.specs.declared.Late.{Late}
-use Rattle.verdict.specs.declared.Verdict.{Verdict}
 use Rattle.verdict.specs.declared.Verdict.the-variants.{Accepted, Refused}
 use Rattle.verdict.specs.Lateness.{received, missing, missedAt, lateBy, earlier, lateness}
 use Rattle.verdict.specs.Margin.{firstEnd, margin, tighter, tightest}
 use Rattle.verdict.specs.Verdict.{judged, verdictFrom, verdictOf}
 use Rattle.start.specs.Start.{timingOf, timings}
-use Rattle.run.specs.declared.Timing.{Timing}
 use Rattle.run.specs.State.{noTiming}
 
 -- ---- what is found is below the count

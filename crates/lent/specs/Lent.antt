@@ -6,7 +6,7 @@ use Prim.Native.Nat.{ℕ, zero, suc, _≤_, _<_}
 use native.Mathlib.Omega.{arith}
 use lib.Dec.{ltb, eqb}
 use lib.IntN.{pos}
-use lib.ListN.{length, getD, take, replicate, length-replicate}
+use lib.ListN.{length, take, replicate, length-replicate}
 use lib.Seq.{length-take-le}
 use borrow.Author.Tests.{lt-ltb, le-ltb, ne-eqb}
 use Rattle.basis.specs.Bytes.{overwrite, overwrite-length, overwrite-at}
@@ -16,7 +16,7 @@ use Rattle.tasks.specs.declared.TaskList.{TaskList}
 use Rattle.tasks.specs.declared.Finding.{Finding}
 use Rattle.plan.specs.Plan.{table}
 use Rattle.tasks.specs.List.{noTask, taskAt, planOf, listOf}
-use Rattle.tasks.specs.Bounds.{refusal, none, _orElse_, ofCount, found, boundsOf}
+use Rattle.tasks.specs.Bounds.{refusal, ofCount, found}
 use Rattle.tasks.specs.Kept.{else-kept, bounds-broken}
 use Rattle.verdict.specs.declared.Verdict.{Verdict}
 use Rattle.verdict.specs.declared.Verdict.the-variants.{Accepted, Refused}
@@ -42,16 +42,19 @@ unfoldable pub recordsOf : TaskList → List Task
 recordsOf l = take (lentCount (l .count)) (seventeen l)
 
 -- ---- how many are lent
-pub lent-few : (n : ℕ) → n ≤ 16 → lentCount n ≡ n
+lent-few : (n : ℕ) → n ≤ 16 → lentCount n ≡ n
 unfolding lentCount
 lent-few n h = choose-yes (ltb n 17) n 17 (lt-ltb n 17 (omega arith))
 
-pub lent-many : (n : ℕ) → 16 < n → lentCount n ≡ 17
+lent-many : (n : ℕ) → 16 < n → lentCount n ≡ 17
 unfolding lentCount
 lent-many n h = choose-no (ltb n 17) n 17 (le-ltb n 17 h)
 
-pub lent-most : (n : ℕ) → lentCount n ≤ 17
+lent-most : (n : ℕ) → lentCount n ≤ 17
 lent-most n = ⊎-elim (λ (h : n ≤ 16). omega (arith, lent-few n h)) (λ (h : 16 < n). omega (arith, lent-many n h)) (le-or-lt n 16)
+
+pub lent-within : (n k : ℕ) → k ≡ lentCount n → k ≤ 17
+lent-within n k e = omega (arith, e, lent-most n)
 
 seventeen-length : (l : TaskList) → length (seventeen l) ≡ 17
 unfolding seventeen

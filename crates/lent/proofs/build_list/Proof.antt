@@ -1,7 +1,6 @@
 -- `build_list` meets its contract: what is built of the records lent is built of the list.
-use native.Mathlib.Omega.{arith}
 use borrow.Author.Needs.{needs}
-use Rattle.lent.specs.Lent.{lent-most, built-so}
+use Rattle.lent.specs.Lent.{lent-within, built-so}
 use Rattle.lent.proofs.build_list.Statement.{statement}
 use Rattle.lent.proofs.build_list.Tie as tie
 
@@ -12,7 +11,7 @@ lent-count-requires : tie.Need-lent-count-requires
 lent-count-requires c κs = search needs
 
 build-first-requires : tie.Need-build-first-requires
-build-first-requires c κs = omega (arith, c .before .lent-count .ensures, lent-most (c .before .before .before .before .args .list .count))
+build-first-requires c κs = lent-within _ _ (c .before .lent-count .ensures)
 
 same-length : tie.Need-same-length
 same-length c = search needs

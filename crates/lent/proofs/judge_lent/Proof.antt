@@ -39,7 +39,7 @@ use Rattle.verdict.proofs.judge as judge
 use Rattle.verdict.proofs.judge.Symbol as judge-def
 use Rattle.verdict.proofs.judge.Symbol.{name as #verdict·judge}
 use Rattle.verdict.proofs.judge.Met as judge-thm
-use Rattle.lent.proofs.Parameters.{Param, records, number, stays, meets}
+use Rattle.lent.proofs.Parameters.{Param, records, number, all-stay, meets}
 use Rattle.lent.proofs.Records.{recordsVal, Records, records-typed, list-typed, verdict-typed, has-u32}
 use Rattle.lent.proofs.Calling.{calls-told}
 use Rattle.lent.proofs.Copying.{Copied, copies}
@@ -60,16 +60,16 @@ module _ {M : Type 1} (𝓤 : URA M) (H : Heap 𝓤) (A : Atoms 𝓤) (mem : Mem
   Judge = tripleOf 𝓤 H A judge.signature (judge.spec 𝓤 H A mem run)
 
 module _ {M : Type 1} (𝓤 : URA M) (H : Heap 𝓤) (A : Atoms 𝓤) (W : Given 𝓤 H A) (mem : Memory → SProp 𝓤) (run : Routine → Fun 𝓤) (κ : Lft) (q : Share) (x : RefT (List Task)) (supply : ℕ) (g : supply < 2 ^ 32) where
-  abbrev bound : walkOf 𝓤 H A judge-lent.ended (stays params) (judge-lent.clauses 𝓤 H A mem run) .Ghost
+  abbrev bound : walkOf 𝓤 H A judge-lent.ended (all-stay params) (judge-lent.clauses 𝓤 H A mem run) .Ghost
   bound = (((κ, tt), (q, tt), tt, (x, (supply, tt)), (recordsVal x ∷ [], (vint w32 supply ∷ [], tt))), tt)
 
   abbrev Post : Val → SProp 𝓤
-  Post = walkOf 𝓤 H A judge-lent.ended (stays params) (judge-lent.clauses 𝓤 H A mem run) .post bound
+  Post = walkOf 𝓤 H A judge-lent.ended (all-stay params) (judge-lent.clauses 𝓤 H A mem run) .post bound
 
   exits : (r : Verdict) (v : Val) → r ≡ verdictOf (listOf (x .now)) supply → ent 𝓤 (⋆ 𝓤 H A (‵ (N.the-row .own r (v ∷ [])) ∷ ‵ (flft κ q) ∷ ‵ (Records κ x) ∷ [])) (Post v)
   exits r v e =
       qed W (‵ (N.the-row .own r (v ∷ [])) ∷ ‵ (flft κ q) ∷ ‵ (Records κ x) ∷ []) ∵
-      suffices ! _ (ends-at 𝓤 H A judge-lent.ended (stays params) (judge-lent.clauses 𝓤 H A mem run) W bound v r (tt, (tt, tt)) (tt, (tt, tt))) $ says ! e $
+      suffices ! _ (ends-at 𝓤 H A judge-lent.ended (all-stay params) (judge-lent.clauses 𝓤 H A mem run) W bound v r (tt, (tt, tt)) (tt, (tt, tt))) $ says ! e $
       nothing ! $ move ! (2 ∷ 0 ∷ []) $ join ! $ frame ! $ nothing ! $ has-u32 ! supply g $ fjoin ! $ move ! (2 ∷ 0 ∷ []) $ fjoin ! $ frame ! $ done !
 
   abbrev to-judge : TaskList → Val → Judge 𝓤 H A mem run .Ghost

@@ -1,7 +1,6 @@
 -- `judge_list` meets its contract: the verdict on the records lent is the verdict on the list.
-use native.Mathlib.Omega.{arith}
 use borrow.Author.Needs.{needs}
-use Rattle.lent.specs.Lent.{lent-most, verdict-so}
+use Rattle.lent.specs.Lent.{lent-within, verdict-so}
 use Rattle.lent.proofs.judge_list.Statement.{statement}
 use Rattle.lent.proofs.judge_list.Tie as tie
 
@@ -12,7 +11,7 @@ lent-count-requires : tie.Need-lent-count-requires
 lent-count-requires c κs = search needs
 
 judge-first-requires : tie.Need-judge-first-requires
-judge-first-requires c κs = omega (arith, c .lent-count .ensures, lent-most (c .before .before .args .list .count))
+judge-first-requires c κs = lent-within _ _ (c .lent-count .ensures)
 
 returns : tie.Need-returns
 returns c = verdict-so _ _ _ _ (c .before .before .seventeen-of .ensures) (c .before .lent-count .ensures) _ (c .judge-first .ensures)

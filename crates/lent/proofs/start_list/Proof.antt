@@ -1,7 +1,6 @@
 -- `start_list` meets its contract: a start with the records lent is a start with the list.
-use native.Mathlib.Omega.{arith}
 use borrow.Author.Needs.{needs}
-use Rattle.lent.specs.Lent.{lent-most, begins-so}
+use Rattle.lent.specs.Lent.{lent-within, begins-so}
 use Rattle.lent.proofs.start_list.Statement.{statement}
 use Rattle.lent.proofs.start_list.Tie as tie
 
@@ -12,7 +11,7 @@ lent-count-requires : tie.Need-lent-count-requires
 lent-count-requires c κs = search needs
 
 start-first-requires : tie.Need-start-first-requires
-start-first-requires c κs = omega (arith, c .before .lent-count .ensures, lent-most (c .before .before .before .before .args .list .count))
+start-first-requires c κs = lent-within _ _ (c .before .lent-count .ensures)
 
 same-length : tie.Need-same-length
 same-length c = search needs
