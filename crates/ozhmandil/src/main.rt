@@ -50,11 +50,11 @@ fn answer(input: &[u8], table: &mut [u8], out: &mut [u8]) -> usize
         return refuse_form(form, out);
     };
     let list = parsed.list;
-    let verdict = verdict::judge(list, 65536);
+    let verdict = lent::judge_list(list, 65536);
     let Verdict::Accepted { cycle, .. } = verdict else {
         return refuse_list(verdict, out);
     };
-    let built = verdict::build(list, 65536, table);
+    let built = lent::build_list(list, 65536, table);
     let Verdict::Accepted { .. } = built else {
         return refuse_list(built, out);
     };

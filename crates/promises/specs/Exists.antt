@@ -11,11 +11,9 @@ use Rattle.verdict.specs.declared.Verdict.{Verdict}
 use Rattle.verdict.specs.Verdict.{verdictOf, numbers}
 use Rattle.verdict.specs.Table.{Built}
 use Rattle.start.specs.declared.Asked.{Asked}
-use Rattle.start.specs.declared.Started.{Started}
 use Rattle.start.specs.Start.{begunOf, begunState, begunLog}
 use Rattle.plan.specs.Plan.{Demand}
 use Rattle.run.specs.declared.State.{State}
-use Rattle.run.specs.declared.Next.{Next}
 use Rattle.run.specs.Who.{running}
 use Rattle.run.specs.Step.{nextClock, stepRefusal, stateAfter, logAfter, answerOf, nextState, nextLog}
 use Rattle.promises.specs.Drive.{reportOf, Own, Drive}

@@ -33,8 +33,8 @@ same-length-2 c = search needs
 returns-2 : tie.Need-returns-2
 returns-2 c = (answers-bad-line _ (c .before .before .before .before .before .before .before .if1 .left) (c .before .before .before .before .before .before .read-list .ensures) _ (c .before .before .before .before .enum-told2 .given .1) (c .before .before .refuse-form .ensures .0), omega (arith, c .before .before .refuse-form .ensures .1))
 
-judge-requires : tie.Need-judge-requires
-judge-requires c κs = search needs
+judge-list-requires : tie.Need-judge-list-requires
+judge-list-requires c κs = search needs
 
 enum-known-verdict : tie.Need-enum-known-verdict
 enum-known-verdict c = search needs
@@ -49,10 +49,10 @@ same-length-3 : tie.Need-same-length-3
 same-length-3 c = search needs
 
 returns-3 : tie.Need-returns-3
-returns-3 c = (answers-refused _ (c .before .before .before .before .before .before .before .before .before .before .before .if1 .left) (c .before .before .before .before .before .before .before .before .before .before .read-list .ensures) (c .before .before .before .before .before .before .before .before .enum-told .given .1) _ (c .before .before .before .before .before .before .judge .ensures) _ _ _ (c .before .before .before .before .enum-told3 .given .1) (c .before .before .refuse-list .ensures .0), omega (arith, c .before .before .refuse-list .ensures .1))
+returns-3 c = (answers-refused _ (c .before .before .before .before .before .before .before .before .before .before .before .if1 .left) (c .before .before .before .before .before .before .before .before .before .before .read-list .ensures) (c .before .before .before .before .before .before .before .before .enum-told .given .1) _ (c .before .before .before .before .before .before .judge-list .ensures) _ _ _ (c .before .before .before .before .enum-told3 .given .1) (c .before .before .refuse-list .ensures .0), omega (arith, c .before .before .refuse-list .ensures .1))
 
-build-requires : tie.Need-build-requires
-build-requires c κs = search needs
+build-list-requires : tie.Need-build-list-requires
+build-list-requires c κs = search needs
 
 enum-told-4 : tie.Need-enum-told-4
 enum-told-4 c = search needs
@@ -70,7 +70,7 @@ same-length-5 : tie.Need-same-length-5
 same-length-5 c = search needs
 
 returns-4 : tie.Need-returns-4
-returns-4 c = never-short _ _ (c .before .before .before .before .before .before .before .before .before .before .before .before .before .judge .ensures) _ _ _ _ (c .before .before .before .before .before .before .before .before .before .before .before .verdict .given .1) _ _ (c .before .before .before .before .before .before .before .before .before .before .before .before .before .before .before .before .before .before .before .before .before .before .pre) _ (c .before .before .before .before .before .before .before .before .build .ensures) _ _ _ (c .before .before .before .before .enum-told5 .given .1)
+returns-4 c = never-short _ _ (c .before .before .before .before .before .before .before .before .before .before .before .before .before .judge-list .ensures) _ _ _ _ (c .before .before .before .before .before .before .before .before .before .before .before .verdict .given .1) _ _ (c .before .before .before .before .before .before .before .before .before .before .before .before .before .before .before .before .before .before .before .before .before .before .pre) _ (c .before .before .before .before .before .before .before .before .build-list .ensures) _ _ _ (c .before .before .before .before .enum-told5 .given .1)
 
 write-table-requires : tie.Need-write-table-requires
 write-table-requires c κs = search needs
@@ -82,7 +82,7 @@ same-length-7 : tie.Need-same-length-7
 same-length-7 c = search needs
 
 returns-5 : tie.Need-returns-5
-returns-5 c = answers-table _ _ (c .before .before .before .before .before .before .before .before .before .before .before .before .before .before .judge .ensures) _ _ _ _ (c .before .before .before .before .before .before .before .before .before .before .before .before .verdict .given .1) _ refl (c .before .before .before .before .before .before .before .before .before .before .before .before .before .before .before .before .enum-told .given .1) (c .before .before .before .before .before .before .before .before .before .before .before .before .before .before .before .before .before .before .before .if1 .left) (c .before .before .before .before .before .before .before .before .before .before .before .before .before .before .before .before .before .before .read-list .ensures) _ _ (c .before .before .before .before .before .before .before .before .before .before .before .before .before .before .before .before .before .before .before .before .before .before .before .pre) _ (c .before .before .before .before .before .before .before .before .before .build .ensures) (c .before .before .write-table .ensures .0) (c .before .before .write-table .ensures .1)
+returns-5 c = answers-table _ _ (c .before .before .before .before .before .before .before .before .before .before .before .before .before .before .judge-list .ensures) _ _ _ _ (c .before .before .before .before .before .before .before .before .before .before .before .before .verdict .given .1) _ refl (c .before .before .before .before .before .before .before .before .before .before .before .before .before .before .before .before .enum-told .given .1) (c .before .before .before .before .before .before .before .before .before .before .before .before .before .before .before .before .before .before .before .if1 .left) (c .before .before .before .before .before .before .before .before .before .before .before .before .before .before .before .before .before .before .read-list .ensures) _ _ (c .before .before .before .before .before .before .before .before .before .before .before .before .before .before .before .before .before .before .before .before .before .before .before .pre) _ (c .before .before .before .before .before .before .before .before .before .build-list .ensures) (c .before .before .write-table .ensures .0) (c .before .before .write-table .ensures .1)
 
 pub answer-spec : {M : Type 1} → statement M
 answer-spec =
@@ -97,13 +97,13 @@ answer-spec =
     refuse-form-requires
     same-length-2
     returns-2
-    judge-requires
+    judge-list-requires
     enum-known-verdict
     enum-told-3
     refuse-list-requires
     same-length-3
     returns-3
-    build-requires
+    build-list-requires
     enum-told-4
     enum-told-5
     refuse-list-requires-2
