@@ -1,19 +1,18 @@
 -- What the one who runs reports, from what `run::who` answers.
 use mathlib.Core.Path.{_≡_, refl, sym, ap, _∙_}
 use mathlib.Core.List.{List}
-use Prim.Native.Nat.{ℕ, zero, suc, _+_, _-_, _≤_, _<_}
+use Prim.Native.Nat.{ℕ, zero, suc, _+_, _≤_, _<_}
 use native.Mathlib.Omega.{arith}
-use lib.Dec.{eqb}
 use lib.ListN.{getD}
 use borrow.Author.Tests.{eq-eqb, ne-eqb}
-use Rattle.basis.specs.Choose.{choose, choose-yes, choose-no}
+use Rattle.basis.specs.Choose.{choose-yes, choose-no}
 use Rattle.run.specs.declared.State.{State}
 use Rattle.run.specs.declared.Runner.{Runner}
 use Rattle.run.specs.declared.Runner.the-variants.{Idle, Task, Refused}
 use Rattle.run.specs.State.{jobOf, place}
 use Rattle.run.specs.Sound.{SoundState}
 use Rattle.run.specs.Who.{running, whoRefusal, ofEntry, answered, whoOf, whoNumbers}
-use Rattle.run.specs.Accepted.{WhoAccepted, who-accepted, running-to}
+use Rattle.run.specs.Accepted.{who-accepted, running-to}
 use Rattle.bench.specs.Course.{reportOf, reportIn}
 
 -- A job of a sound state has used at most 4,096 slices.

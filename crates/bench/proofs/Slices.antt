@@ -1,5 +1,5 @@
 -- What closing a slice comes to, from what the step answers.
-use mathlib.Core.Path.{_≡_, sym, ap, _∙_}
+use mathlib.Core.Path.{_≡_, sym, _∙_}
 use mathlib.Core.List.{List}
 use Prim.Native.Nat.{ℕ}
 use Rattle.run.specs.declared.Closed.the-variants.{Accepted, Refused}

@@ -1,7 +1,6 @@
 -- `bench::report_of` meets its contract.
 use native.Mathlib.Omega.{arith}
 use Prim.Native.Nat.{_-_}
-use denote.Ref.{now}
 use Rattle.run.specs.State.{fresh, jobOf}
 use Rattle.bench.proofs.Reports.{used-most, report-none, report-finished, report-working}
 use borrow.Author.Needs.{needs}
