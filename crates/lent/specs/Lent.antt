@@ -44,11 +44,11 @@ recordsOf l = take (lentCount (l .count)) (seventeen l)
 -- ---- how many are lent
 lent-few : (n : ℕ) → n ≤ 16 → lentCount n ≡ n
 unfolding lentCount
-lent-few n h = choose-yes (ltb n 17) n 17 (lt-ltb n 17 (omega arith))
+lent-few n h = choose-yes (ltb n 17) _ _ (lt-ltb n 17 (omega arith))
 
 lent-many : (n : ℕ) → 16 < n → lentCount n ≡ 17
 unfolding lentCount
-lent-many n h = choose-no (ltb n 17) n 17 (le-ltb n 17 h)
+lent-many n h = choose-no (ltb n 17) _ _ (le-ltb n 17 h)
 
 lent-most : (n : ℕ) → lentCount n ≤ 17
 lent-most n = ⊎-elim (λ (h : n ≤ 16). omega (arith, lent-few n h)) (λ (h : 16 < n). omega (arith, lent-many n h)) (le-or-lt n 16)

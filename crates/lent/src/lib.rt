@@ -1,4 +1,5 @@
-// The public functions over a task list that is lent as a run of records.
+// The verdict, table building and start over a task list that is lent as a run of records: thin walks that copy the records
+// into a list for the covered core. What takes a list by value lends it, so that covered code comes this way too.
 ghost use mathlib.Core.Path.{_≡_};
 ghost use mathlib.Core.List.{[]};
 ghost use Prim.Native.Nat.{_<_, _≤_};
@@ -78,7 +79,7 @@ pub fn judge_lent(tasks: &[Task], supply: u32) -> Verdict
     verdict::judge(copied(tasks), supply)
 }
 
-// The verdict on the first so many of seventeen places, which are lent.
+// The verdict on the first so many of seventeen places, which are lent for it; likewise build_first and start_first below.
 fn judge_first(tasks: [Task; 17], count: usize, supply: u32) -> Verdict
     requires { ⌜ count ≤ 17 ⌝ }
     ensures { λ r. ⌜ r ≡ verdictOf (listOf (take count tasks)) supply ⌝ }
