@@ -31,7 +31,12 @@ same-length-2 : tie.Need-same-length-2
 same-length-2 c = search needs
 
 returns-2 : tie.Need-returns-2
-returns-2 c = (answers-bad-line _ (c .before .before .before .before .before .before .before .if1 .left) (c .before .before .before .before .before .before .read-list .ensures) _ (c .before .before .before .before .enum-told2 .given .1) (c .before .before .refuse-form .ensures .0), omega (arith, c .before .before .refuse-form .ensures .1))
+returns-2 c =
+    let refused = c .before .before .refuse-form in
+    let form = c .before .before .before .before .enum-told2 in
+    let read = c .before .before .before .before .before .before .read-list in
+    let short = c .before .before .before .before .before .before .before .if1 in
+    (answers-bad-line _ (short .left) (read .ensures) _ (form .given .1) (refused .ensures .0), omega (arith, refused .ensures .1))
 
 judge-list-requires : tie.Need-judge-list-requires
 judge-list-requires c κs = search needs
@@ -49,7 +54,14 @@ same-length-3 : tie.Need-same-length-3
 same-length-3 c = search needs
 
 returns-3 : tie.Need-returns-3
-returns-3 c = (answers-refused _ (c .before .before .before .before .before .before .before .before .before .before .before .if1 .left) (c .before .before .before .before .before .before .before .before .before .before .read-list .ensures) (c .before .before .before .before .before .before .before .before .enum-told .given .1) _ (c .before .before .before .before .before .before .judge-list .ensures) _ _ _ (c .before .before .before .before .enum-told3 .given .1) (c .before .before .refuse-list .ensures .0), omega (arith, c .before .before .refuse-list .ensures .1))
+returns-3 c =
+    let refused = c .before .before .refuse-list in
+    let verdict = c .before .before .before .before .enum-told3 in
+    let judged = c .before .before .before .before .before .before .judge-list in
+    let form = c .before .before .before .before .before .before .before .before .enum-told in
+    let read = c .before .before .before .before .before .before .before .before .before .before .read-list in
+    let short = c .before .before .before .before .before .before .before .before .before .before .before .if1 in
+    (answers-refused _ (short .left) (read .ensures) (form .given .1) _ (judged .ensures) _ _ _ (verdict .given .1) (refused .ensures .0), omega (arith, refused .ensures .1))
 
 build-list-requires : tie.Need-build-list-requires
 build-list-requires c κs = search needs
@@ -70,7 +82,13 @@ same-length-5 : tie.Need-same-length-5
 same-length-5 c = search needs
 
 returns-4 : tie.Need-returns-4
-returns-4 c = never-short _ _ (c .before .before .before .before .before .before .before .before .before .before .before .before .before .judge-list .ensures) _ _ _ _ (c .before .before .before .before .before .before .before .before .before .before .before .verdict .given .1) _ _ (c .before .before .before .before .before .before .before .before .before .before .before .before .before .before .before .before .before .before .before .before .before .before .pre) _ (c .before .before .before .before .before .before .before .before .build-list .ensures) _ _ _ (c .before .before .before .before .enum-told5 .given .1)
+returns-4 c =
+    let answered = c .before .before .before .before .enum-told5 in
+    let built = c .before .before .before .before .before .before .before .before .build-list in
+    let verdict = c .before .before .before .before .before .before .before .before .before .before .before .verdict in
+    let judged = c .before .before .before .before .before .before .before .before .before .before .before .before .before .judge-list in
+    let lent = c .before .before .before .before .before .before .before .before .before .before .before .before .before .before .before .before .before .before .before .before .before .before .pre in
+    never-short _ _ (judged .ensures) _ _ _ _ (verdict .given .1) _ _ lent _ (built .ensures) _ _ _ (answered .given .1)
 
 write-table-requires : tie.Need-write-table-requires
 write-table-requires c κs = search needs
@@ -82,7 +100,16 @@ same-length-7 : tie.Need-same-length-7
 same-length-7 c = search needs
 
 returns-5 : tie.Need-returns-5
-returns-5 c = answers-table _ _ (c .before .before .before .before .before .before .before .before .before .before .before .before .before .before .judge-list .ensures) _ _ _ _ (c .before .before .before .before .before .before .before .before .before .before .before .before .verdict .given .1) _ refl (c .before .before .before .before .before .before .before .before .before .before .before .before .before .before .before .before .enum-told .given .1) (c .before .before .before .before .before .before .before .before .before .before .before .before .before .before .before .before .before .before .before .if1 .left) (c .before .before .before .before .before .before .before .before .before .before .before .before .before .before .before .before .before .before .read-list .ensures) _ _ (c .before .before .before .before .before .before .before .before .before .before .before .before .before .before .before .before .before .before .before .before .before .before .before .pre) _ (c .before .before .before .before .before .before .before .before .before .build-list .ensures) (c .before .before .write-table .ensures .0) (c .before .before .write-table .ensures .1)
+returns-5 c =
+    let printed = c .before .before .write-table in
+    let built = c .before .before .before .before .before .before .before .before .before .build-list in
+    let verdict = c .before .before .before .before .before .before .before .before .before .before .before .before .verdict in
+    let judged = c .before .before .before .before .before .before .before .before .before .before .before .before .before .before .judge-list in
+    let form = c .before .before .before .before .before .before .before .before .before .before .before .before .before .before .before .before .enum-told in
+    let read = c .before .before .before .before .before .before .before .before .before .before .before .before .before .before .before .before .before .before .read-list in
+    let short = c .before .before .before .before .before .before .before .before .before .before .before .before .before .before .before .before .before .before .before .if1 in
+    let lent = c .before .before .before .before .before .before .before .before .before .before .before .before .before .before .before .before .before .before .before .before .before .before .before .pre in
+    answers-table _ _ (judged .ensures) _ _ _ _ (verdict .given .1) _ refl (form .given .1) (short .left) (read .ensures) _ _ lent _ (built .ensures) (printed .ensures .0) (printed .ensures .1)
 
 pub answer-spec : {M : Type 1} → statement M
 answer-spec =
