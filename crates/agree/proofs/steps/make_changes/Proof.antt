@@ -1,0 +1,48 @@
+-- `steps::make_changes` is safe and ends.
+use Prim.Native.Nat.{_-_}
+use borrow.Author.Needs.{needs}
+use lib.ListN.{length}
+use mathlib.Core.Path.{_≡_}
+use Rattle.agree.proofs.steps.make_changes.Statement.{statement}
+use Rattle.agree.proofs.steps.make_changes.Tie as tie
+
+abbrev Inv-loop : tie.InvT-loop
+Inv-loop twin₀ changes fine₀ from₀ i₀ twin fine from i = length twin ≡ length twin₀
+
+abbrev μ-loop : tie.MeasureT-loop
+μ-loop twin₀ changes fine₀ from₀ i₀ twin fine from i = changes - i
+
+loop-holds : tie.Need-loop-holds Inv-loop μ-loop
+loop-holds c = search needs
+
+make-change-requires : tie.Need-make-change-requires Inv-loop μ-loop
+make-change-requires c κs = search needs
+
+add-i : tie.Need-add-i Inv-loop μ-loop
+add-i c = search needs
+
+loop-less : tie.Need-loop-less Inv-loop μ-loop
+loop-less c = search needs
+
+loop-again : tie.Need-loop-again Inv-loop μ-loop
+loop-again c = search needs
+
+same-length : tie.Need-same-length Inv-loop μ-loop
+same-length c = c .before .loop .inv
+
+returns : tie.Need-returns Inv-loop μ-loop
+returns c = search needs
+
+pub make-changes-spec : {M : Type 1} → statement M
+make-changes-spec =
+    tie.close
+    (tie.spec
+    Inv-loop
+    μ-loop
+    loop-holds
+    make-change-requires
+    add-i
+    loop-less
+    loop-again
+    same-length
+    returns)
