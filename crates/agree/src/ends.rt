@@ -1,36 +1,46 @@
 // The end record: the counts, and nothing after it.
-use crate::Counts;
 use crate::Hand;
 use crate::taken;
 use crate::told;
 use libc::STDIN_FILENO;
 
-fn count_agrees(number: u32, what: &[u8], found: u32) -> bool {
-    let expected = taken::take_number();
-    let whole = told::holds(number, b"cut short", expected.whole);
-    let agrees = told::agrees(number, what, expected.value, found);
-    whole & agrees
+// The last four bytes of the file, and whether they are that.
+struct Last {
+    count: u32,
+    formed: bool,
 }
 
-fn counts_agree(number: u32, counts: Counts) -> bool {
-    let lists = count_agrees(number, b"lists", counts.lists);
-    let builds = count_agrees(number, b"builds", counts.builds);
-    let starts = count_agrees(number, b"starts", counts.starts);
-    let steps = count_agrees(number, b"steps", counts.steps);
-    let conversions = count_agrees(number, b"conversions", counts.conversions);
-    lists & builds & starts & steps & conversions
+fn take_last() -> Last {
+    let mut b = [0u8; 4];
+    let got = io::read_full(STDIN_FILENO, &mut b);
+    let mut more = [0u8; 1];
+    let beyond = io::read_full(STDIN_FILENO, &mut more);
+    Last {
+        count: taken::word_of(&b),
+        formed: (got == 4) & (beyond == 0),
+    }
 }
 
-fn nothing_more() -> bool {
-    let mut b = [0u8; 1];
-    io::read_full(STDIN_FILENO, &mut b) == 0
+fn count_agrees(number: u32, found: u32) -> bool {
+    told::agrees(number, b"count", taken::word(), found)
+}
+
+fn counts_agree(number: u32, counts: [u32; 14]) -> bool {
+    let lists = count_agrees(number, counts[1]);
+    let builds = count_agrees(number, counts[6]);
+    let starts = count_agrees(number, counts[10]);
+    let steps = count_agrees(number, counts[12]);
+    let last = take_last();
+    let conversions = told::agrees(number, b"count", last.count, counts[13]);
+    let formed = told::holds(number, b"not the end", last.formed);
+    lists & builds & starts & steps & conversions & formed
 }
 
 pub(crate) fn end(hand: Hand) -> Hand {
-    let counts = counts_agree(hand.number, hand.counts);
-    let last = told::holds(hand.number, b"bytes after the end record", nothing_more());
+    let counts = hand.counts;
+    let agrees = counts_agree(hand.number, counts);
     let mut after = hand;
     after.open = false;
-    after.agreed = counts & last;
+    after.agreed = agrees;
     after
 }

@@ -1,6 +1,4 @@
 // Checksums: FNV-1a of 32 bits.
-ghost use Prim.Native.Nat.{_≤_};
-ghost use lib.ListN.{length};
 use run::Mode;
 use run::State;
 
@@ -16,28 +14,18 @@ fn with_word(h: u32, w: u32) -> u32 {
     with_byte(c, (w / 16777216) as u8)
 }
 
-fn with_long(h: u32, n: u64) -> u32 {
-    let low = with_word(h, (n % 4294967296) as u32);
-    with_word(low, (n / 4294967296) as u32)
-}
-
-// Of the first bytes.
-pub(crate) fn with_bytes(h: u32, bytes: &[u8], count: usize) -> u32
-    requires { ⌜ count ≤ length (now bytes) ⌝ }
-{
+pub(crate) fn with_bytes(h: u32, bytes: &[u8]) -> u32 {
     let mut sum = h;
     let mut i = 0;
-    while i < count {
+    while i < bytes.len() {
         sum = with_byte(sum, bytes[i]);
         i += 1;
     }
     sum
 }
 
-pub(crate) fn of_bytes(bytes: &[u8], count: usize) -> u32
-    requires { ⌜ count ≤ length (now bytes) ⌝ }
-{
-    with_bytes(2166136261, bytes, count)
+pub(crate) fn of_bytes(bytes: &[u8]) -> u32 {
+    with_bytes(2166136261, bytes)
 }
 
 fn with_tasks(h: u32, state: State) -> u32 {
@@ -64,20 +52,21 @@ fn with_jobs(h: u32, state: State) -> u32 {
     sum
 }
 
-fn mode_byte(state: State) -> u8 {
+fn with_mode(h: u32, state: State) -> u32 {
     let mode = state.mode;
     match mode {
-        Mode::Table => 0,
-        Mode::Filling => 1,
+        Mode::Table => with_byte(h, 0),
+        Mode::Filling => with_byte(h, 1),
     }
 }
 
 // The 229 bytes of a state, in the format's order.
 pub(crate) fn of_state(state: State) -> u32 {
-    let count = with_long(2166136261, state.count as u64);
-    let cycle = with_word(count, state.cycle);
+    let count = state.count as u64;
+    let low = with_word(2166136261, (count % 4294967296) as u32);
+    let high = with_word(low, (count / 4294967296) as u32);
+    let cycle = with_word(high, state.cycle);
     let position = with_word(cycle, state.position);
     let clock = with_word(position, state.clock);
-    let mode = with_byte(clock, mode_byte(state));
-    with_jobs(with_tasks(mode, state), state)
+    with_jobs(with_tasks(with_mode(clock, state), state), state)
 }

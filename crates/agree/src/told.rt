@@ -2,10 +2,9 @@
 ghost use mathlib.Core.Path.{_≡_};
 ghost use lib.Dec.{eqb};
 use crate::Answer;
-use crate::Counts;
 use libc::STDOUT_FILENO;
 
-pub(crate) fn text(words: &[u8]) {
+fn text(words: &[u8]) {
     io::write_all(STDOUT_FILENO, words);
 }
 
@@ -14,7 +13,7 @@ fn decimal(number: u64) {
 }
 
 // Opens the line on a record.
-pub(crate) fn record(number: u32, what: &[u8]) {
+fn record(number: u32, what: &[u8]) {
     text(b"record ");
     decimal(number as u64);
     text(b": ");
@@ -41,17 +40,17 @@ pub(crate) fn agrees(number: u32, what: &[u8], expected: u32, found: u32) -> boo
     false
 }
 
-pub(crate) fn task_agrees(number: u32, what: &[u8], expected: usize, found: usize) -> bool
+pub(crate) fn task_agrees(number: u32, expected: usize, found: usize) -> bool
     ensures { λ r. ⌜ r ≡ eqb expected found ⌝ }
 {
     if expected == found {
         return true;
     }
-    difference(number, what, expected as u64, found as u64);
+    difference(number, b"task", expected as u64, found as u64);
     false
 }
 
-// The same of what has no number to show.
+// The same of what is or is not so.
 pub(crate) fn holds(number: u32, what: &[u8], fine: bool) -> bool
     ensures { λ r. ⌜ r ≡ fine ⌝ }
 {
@@ -65,7 +64,7 @@ pub(crate) fn holds(number: u32, what: &[u8], fine: bool) -> bool
 
 pub(crate) fn answer_agrees(number: u32, expected: Answer, found: Answer) -> bool {
     let refusal = agrees(number, b"refusal", expected.refusal, found.refusal);
-    let task = task_agrees(number, b"task", expected.task, found.task);
+    let task = task_agrees(number, expected.task, found.task);
     let margin = holds(number, b"margin", expected.margin == found.margin);
     let cycle = agrees(number, b"cycle", expected.cycle, found.cycle);
     let jobs = agrees(number, b"jobs", expected.jobs, found.jobs);
@@ -77,10 +76,10 @@ fn counted(count: u32, what: &[u8]) {
     text(what);
 }
 
-pub(crate) fn summary(counts: Counts) {
-    counted(counts.lists, b" lists, ");
-    counted(counts.builds, b" builds, ");
-    counted(counts.starts, b" starts, ");
-    counted(counts.steps, b" steps, ");
-    counted(counts.conversions, b" conversions: all agree\n");
+pub(crate) fn summary(counts: [u32; 14]) {
+    counted(counts[1], b" lists, ");
+    counted(counts[6], b" builds, ");
+    counted(counts[10], b" starts, ");
+    counted(counts[12], b" steps, ");
+    counted(counts[13], b" conversions: all agree\n");
 }

@@ -5,10 +5,10 @@ use Rattle.agree.proofs.lists.take_list.Statement.{statement}
 use Rattle.agree.proofs.lists.take_list.Tie as tie
 
 abbrev Inv-loop : tie.InvT-loop
-Inv-loop count tasks₀ whole₀ i₀ tasks whole i = Unit {0}
+Inv-loop count tasks₀ i₀ tasks i = Unit {0}
 
 abbrev μ-loop : tie.MeasureT-loop
-μ-loop count tasks₀ whole₀ i₀ tasks whole i = count - i
+μ-loop count tasks₀ i₀ tasks i = count - i
 
 no-tasks-requires : tie.Need-no-tasks-requires Inv-loop μ-loop
 no-tasks-requires c κs = search needs

@@ -5,16 +5,19 @@ use Rattle.agree.proofs.states.take_jobs.Statement.{statement}
 use Rattle.agree.proofs.states.take_jobs.Tie as tie
 
 abbrev Inv-loop : tie.InvT-loop
-Inv-loop jobs₀ fine₀ i₀ jobs fine i = Unit {0}
+Inv-loop jobs₀ formed₀ i₀ jobs formed i = Unit {0}
 
 abbrev μ-loop : tie.MeasureT-loop
-μ-loop jobs₀ fine₀ i₀ jobs fine i = 16 - i
+μ-loop jobs₀ formed₀ i₀ jobs formed i = 16 - i
 
 loop-holds : tie.Need-loop-holds Inv-loop μ-loop
 loop-holds c = search needs
 
-take-pair-requires : tie.Need-take-pair-requires Inv-loop μ-loop
-take-pair-requires c κs = search needs
+word-requires : tie.Need-word-requires Inv-loop μ-loop
+word-requires c κs = search needs
+
+byte-requires : tie.Need-byte-requires Inv-loop μ-loop
+byte-requires c κs = search needs
 
 mul-jobs : tie.Need-mul-jobs Inv-loop μ-loop
 mul-jobs c = search needs
@@ -41,7 +44,8 @@ take-jobs-spec =
     Inv-loop
     μ-loop
     loop-holds
-    take-pair-requires
+    word-requires
+    byte-requires
     mul-jobs
     array-set-from-jobs
     add-i

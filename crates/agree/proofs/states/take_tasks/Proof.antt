@@ -5,19 +5,16 @@ use Rattle.agree.proofs.states.take_tasks.Statement.{statement}
 use Rattle.agree.proofs.states.take_tasks.Tie as tie
 
 abbrev Inv-loop : tie.InvT-loop
-Inv-loop tasks₀ whole₀ i₀ tasks whole i = Unit {0}
+Inv-loop tasks₀ i₀ tasks i = Unit {0}
 
 abbrev μ-loop : tie.MeasureT-loop
-μ-loop tasks₀ whole₀ i₀ tasks whole i = 16 - i
+μ-loop tasks₀ i₀ tasks i = 16 - i
 
 loop-holds : tie.Need-loop-holds Inv-loop μ-loop
 loop-holds c = search needs
 
-take-number-requires : tie.Need-take-number-requires Inv-loop μ-loop
-take-number-requires c κs = search needs
-
-take-number-requires-2 : tie.Need-take-number-requires-2 Inv-loop μ-loop
-take-number-requires-2 c κs = search needs
+take-timing-requires : tie.Need-take-timing-requires Inv-loop μ-loop
+take-timing-requires c κs = search needs
 
 mul-tasks : tie.Need-mul-tasks Inv-loop μ-loop
 mul-tasks c = search needs
@@ -44,8 +41,7 @@ take-tasks-spec =
     Inv-loop
     μ-loop
     loop-holds
-    take-number-requires
-    take-number-requires-2
+    take-timing-requires
     mul-tasks
     array-set-from-tasks
     add-i

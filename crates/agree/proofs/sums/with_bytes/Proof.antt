@@ -1,14 +1,15 @@
 -- `sums::with_bytes` is safe and ends.
 use Prim.Native.Nat.{_-_}
 use borrow.Author.Needs.{needs}
+use lib.ListN.{length}
 use Rattle.agree.proofs.sums.with_bytes.Statement.{statement}
 use Rattle.agree.proofs.sums.with_bytes.Tie as tie
 
 abbrev Inv-loop : tie.InvT-loop
-Inv-loop h bytes count sum₀ i₀ sum i = Unit {0}
+Inv-loop h bytes sum₀ i₀ sum i = Unit {0}
 
 abbrev μ-loop : tie.MeasureT-loop
-μ-loop h bytes count sum₀ i₀ sum i = count - i
+μ-loop h bytes sum₀ i₀ sum i = length bytes - i
 
 loop-holds : tie.Need-loop-holds Inv-loop μ-loop
 loop-holds c = search needs

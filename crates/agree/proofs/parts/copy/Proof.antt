@@ -1,22 +1,25 @@
--- `steps::make_changes` is safe and ends.
+-- `parts::copy` is safe and ends.
 use Prim.Native.Nat.{_-_}
 use borrow.Author.Needs.{needs}
 use lib.ListN.{length}
 use mathlib.Core.Path.{_≡_}
-use Rattle.agree.proofs.steps.make_changes.Statement.{statement}
-use Rattle.agree.proofs.steps.make_changes.Tie as tie
+use Rattle.agree.proofs.parts.copy.Statement.{statement}
+use Rattle.agree.proofs.parts.copy.Tie as tie
 
 abbrev Inv-loop : tie.InvT-loop
-Inv-loop twin₀ changes fine₀ from₀ i₀ twin fine from i = length twin ≡ length twin₀
+Inv-loop from to₀ i₀ to i = length to ≡ length to₀
 
 abbrev μ-loop : tie.MeasureT-loop
-μ-loop twin₀ changes fine₀ from₀ i₀ twin fine from i = changes - i
+μ-loop from to₀ i₀ to i = length to₀ - i
 
 loop-holds : tie.Need-loop-holds Inv-loop μ-loop
 loop-holds c = search needs
 
-make-change-requires : tie.Need-make-change-requires Inv-loop μ-loop
-make-change-requires c κs = search needs
+byte-at-requires : tie.Need-byte-at-requires Inv-loop μ-loop
+byte-at-requires c κs = search needs
+
+slice-write-to : tie.Need-slice-write-to Inv-loop μ-loop
+slice-write-to c = search needs
 
 add-i : tie.Need-add-i Inv-loop μ-loop
 add-i c = search needs
@@ -33,14 +36,15 @@ same-length c = c .before .loop .inv
 returns : tie.Need-returns Inv-loop μ-loop
 returns c = search needs
 
-pub make-changes-spec : {M : Type 1} → statement M
-make-changes-spec =
+pub copy-spec : {M : Type 1} → statement M
+copy-spec =
     tie.close
     (tie.spec
     Inv-loop
     μ-loop
     loop-holds
-    make-change-requires
+    byte-at-requires
+    slice-write-to
     add-i
     loop-less
     loop-again

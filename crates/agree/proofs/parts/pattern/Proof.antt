@@ -1,25 +1,25 @@
--- `starts::copy` is safe and ends.
+-- `parts::pattern` is safe and ends.
 use Prim.Native.Nat.{_-_}
 use borrow.Author.Needs.{needs}
 use lib.ListN.{length}
 use mathlib.Core.Path.{_≡_}
-use Rattle.agree.proofs.starts.copy.Statement.{statement}
-use Rattle.agree.proofs.starts.copy.Tie as tie
+use Rattle.agree.proofs.parts.pattern.Statement.{statement}
+use Rattle.agree.proofs.parts.pattern.Tie as tie
 
 abbrev Inv-loop : tie.InvT-loop
-Inv-loop from to₀ count i₀ to i = length to ≡ length to₀
+Inv-loop bytes₀ count fill next₀ i₀ bytes next i = length bytes ≡ length bytes₀
 
 abbrev μ-loop : tie.MeasureT-loop
-μ-loop from to₀ count i₀ to i = count - i
+μ-loop bytes₀ count fill next₀ i₀ bytes next i = count - i
 
 loop-holds : tie.Need-loop-holds Inv-loop μ-loop
 loop-holds c = search needs
 
-shared-slice-read-to : tie.Need-shared-slice-read-to Inv-loop μ-loop
-shared-slice-read-to c = search needs
+slice-write-bytes : tie.Need-slice-write-bytes Inv-loop μ-loop
+slice-write-bytes c = search needs
 
-slice-write-to : tie.Need-slice-write-to Inv-loop μ-loop
-slice-write-to c = search needs
+wrapping-add-u8-requires : tie.Need-wrapping-add-u8-requires Inv-loop μ-loop
+wrapping-add-u8-requires c κs = search needs
 
 add-i : tie.Need-add-i Inv-loop μ-loop
 add-i c = search needs
@@ -36,15 +36,15 @@ same-length c = c .before .loop .inv
 returns : tie.Need-returns Inv-loop μ-loop
 returns c = search needs
 
-pub copy-spec : {M : Type 1} → statement M
-copy-spec =
+pub pattern-spec : {M : Type 1} → statement M
+pattern-spec =
     tie.close
     (tie.spec
     Inv-loop
     μ-loop
     loop-holds
-    shared-slice-read-to
-    slice-write-to
+    slice-write-bytes
+    wrapping-add-u8-requires
     add-i
     loop-less
     loop-again
