@@ -1,28 +1,17 @@
 // The end record: the counts, and nothing after it.
 use crate::Hand;
-use crate::taken;
-use crate::told;
-use libc::STDIN_FILENO;
-
-// The last four bytes of the file, and whether they are that.
-struct Last {
-    count: u32,
-    formed: bool,
-}
-
-fn take_last() -> Last {
-    let mut b = [0u8; 4];
-    let got = io::read_full(STDIN_FILENO, &mut b);
-    let mut more = [0u8; 1];
-    let beyond = io::read_full(STDIN_FILENO, &mut more);
-    Last {
-        count: taken::word_of(&b),
-        formed: (got == 4) & (beyond == 0),
-    }
-}
+use cases::taken;
+use cases::told;
 
 fn count_agrees(number: u32, found: u32) -> bool {
     told::agrees(number, b"count", taken::word(), found)
+}
+
+fn last_agrees(number: u32, found: u32) -> bool {
+    let last = taken::take_last();
+    let count = told::agrees(number, b"count", last.count, found);
+    let formed = told::holds(number, b"not the end", last.formed);
+    count & formed
 }
 
 fn counts_agree(number: u32, counts: [u32; 14]) -> bool {
@@ -30,10 +19,8 @@ fn counts_agree(number: u32, counts: [u32; 14]) -> bool {
     let builds = count_agrees(number, counts[6]);
     let starts = count_agrees(number, counts[10]);
     let steps = count_agrees(number, counts[12]);
-    let last = take_last();
-    let conversions = told::agrees(number, b"count", last.count, counts[13]);
-    let formed = told::holds(number, b"not the end", last.formed);
-    lists & builds & starts & steps & conversions & formed
+    let conversions = last_agrees(number, counts[13]);
+    lists & builds & starts & steps & conversions
 }
 
 pub(crate) fn end(hand: Hand) -> Hand {

@@ -1,22 +1,11 @@
-// Records of lists.
-use crate::Answer;
+// Records of lists and conversions.
 use crate::Hand;
-use crate::taken;
-use crate::told;
-use tasks::Task;
+use cases::Answer;
+use cases::taken;
+use cases::told;
 use tasks::TaskList;
+use units::Slices;
 use verdict::Verdict;
-
-pub(crate) fn no_tasks() -> TaskList {
-    TaskList {
-        tasks: [Task {
-            period: 0,
-            runtime: 0,
-            memory: 0,
-        }; 16],
-        count: 0,
-    }
-}
 
 pub(crate) fn answer_of(verdict: Verdict) -> Answer {
     match verdict {
@@ -46,39 +35,6 @@ pub(crate) fn answer_of(verdict: Verdict) -> Answer {
     }
 }
 
-fn take_task() -> Task {
-    let period = taken::word();
-    let runtime = taken::word();
-    let memory = taken::word();
-    Task {
-        period,
-        runtime,
-        memory,
-    }
-}
-
-// The first 16 tasks are kept; more are only counted.
-fn keep(tasks: [Task; 16], i: usize, task: Task) -> [Task; 16] {
-    if 16 <= i {
-        return tasks;
-    }
-    let mut after = tasks;
-    after[i] = task;
-    after
-}
-
-fn take_list(count: usize) -> TaskList {
-    let none = no_tasks();
-    let mut tasks = none.tasks;
-    let mut i = 0;
-    while i < count {
-        let after = keep(tasks, i, take_task());
-        tasks = after;
-        i += 1;
-    }
-    TaskList { tasks, count }
-}
-
 fn judged(hand: Hand, supply: u32, list: TaskList) -> Hand {
     let expected = taken::take_answer();
     let found = answer_of(verdict::judge(list, supply));
@@ -97,5 +53,40 @@ pub(crate) fn list(hand: Hand) -> Hand {
     if 272 < count {
         return crate::open_if_formed(hand, false);
     }
-    judged(hand, supply, take_list(count))
+    judged(hand, supply, taken::take_list(count))
+}
+
+// Kind 0 is a run-time, 1 a period.
+fn converted(kind: u8, micros: u32, length: u32) -> Slices {
+    if kind == 0 {
+        units::runtime_slices(micros, length)
+    } else {
+        units::period_slices(micros, length)
+    }
+}
+
+fn slices_agree(number: u32, refusal: u32, slices: u32) -> bool {
+    let expected = taken::byte();
+    let refused = told::agrees(number, b"refusal", expected as u32, refusal);
+    let next = taken::word();
+    let counted = told::agrees(number, b"slices", next, slices);
+    refused & counted
+}
+
+fn conversion_agrees(number: u32, found: Slices) -> bool {
+    match found {
+        Slices::Count(slices) => slices_agree(number, 0, slices),
+        Slices::Refused => slices_agree(number, 17, 0),
+    }
+}
+
+pub(crate) fn conversion(hand: Hand) -> Hand {
+    let kind = taken::byte();
+    let micros = taken::word();
+    let length = taken::word();
+    if 1 < kind {
+        return crate::open_if_formed(hand, false);
+    }
+    let found = converted(kind, micros, length);
+    crate::open_if(hand, conversion_agrees(hand.number, found))
 }

@@ -1,30 +1,21 @@
 // Reads the file of reference cases from standard input (tests/reference/FORMAT.md) and compares every answer of the library
 // with it. It says that all agree, with the counts of the calls, or which record does not.
-mod told; // what is said on standard output
-mod taken; // numbers from standard input
-mod sums; // checksums
-mod parts; // the first bytes of a table or a log
-mod lists; // records of lists
-mod conversions; // records of conversions
+mod parts; // bytes of a table or a log
+mod lists; // records of lists and conversions
 mod tables; // records of the table
-mod logs; // records of the log
-mod starts; // records of starts
-mod states; // records of states
-mod steps; // records of steps
+mod logs; // records of the log and of starts
+mod steps; // records of states and steps
 mod ends; // the end record
 
-use libc::STDIN_FILENO;
+use cases::Answer;
+use cases::taken;
+use cases::told;
+use run::Job;
+use run::Mode;
 use run::State;
+use run::Timing;
+use tasks::Task;
 use tasks::TaskList;
-
-// An answer in the file's numbers. Refusal 0 is acceptance.
-struct Answer {
-    refusal: u32,
-    task: usize,
-    margin: i32,
-    cycle: u32,
-    jobs: u32,
-}
 
 // What is held between records. `open` while no record has disagreed and more are to come; `agreed` after an end record
 // that agrees. `counts` has the records so far, by tag.
@@ -43,10 +34,17 @@ struct Hand {
     agreed: bool,
 }
 
-// What is held before the first record.
+// What is held before the first record: an empty list, and the state of a refused start.
 fn empty() -> Hand {
     Hand {
-        list: lists::no_tasks(),
+        list: TaskList {
+            tasks: [Task {
+                period: 0,
+                runtime: 0,
+                memory: 0,
+            }; 16],
+            count: 0,
+        },
         supply: 0,
         verdict: Answer {
             refusal: 0,
@@ -55,7 +53,21 @@ fn empty() -> Hand {
             cycle: 0,
             jobs: 0,
         },
-        state: states::no_run(),
+        state: State {
+            tasks: [Timing {
+                period: 0,
+                runtime: 0,
+            }; 16],
+            jobs: [Job {
+                used: 0,
+                ended: false,
+            }; 16],
+            count: 0,
+            cycle: 0,
+            position: 0,
+            clock: 0,
+            mode: Mode::Table,
+        },
         table_held: 0,
         table_lent: 0,
         log_held: 0,
@@ -79,13 +91,6 @@ fn open_if_formed(hand: Hand, formed: bool) -> Hand {
     open_if(hand, told::holds(hand.number, b"not in the format", formed))
 }
 
-// The hand before the first record of a case file.
-fn opened() -> Hand {
-    let mut magic = [0u8; 8];
-    io::read_full(STDIN_FILENO, &mut magic);
-    open_if_formed(empty(), check::same(&magic, b"SLICES01"))
-}
-
 fn on_table(hand: Hand, tag: u8, table: &mut [u8]) -> Hand {
     match tag {
         2 => tables::fill(hand, table),
@@ -96,12 +101,12 @@ fn on_table(hand: Hand, tag: u8, table: &mut [u8]) -> Hand {
     }
 }
 
-fn on_log(hand: Hand, tag: u8, log: &mut [u8], twin: &mut [u8]) -> Hand {
+fn on_log(hand: Hand, tag: u8, log: &mut [u8]) -> Hand {
     match tag {
-        7 => logs::fill(hand, log, twin),
+        7 => logs::fill(hand, log),
         8 => logs::lent(hand),
         9 => logs::check(hand, log),
-        _ => starts::start(hand, log, twin),
+        _ => logs::start(hand, log),
     }
 }
 
@@ -109,17 +114,17 @@ fn on_rest(hand: Hand, tag: u8) -> Hand {
     match tag {
         0 => ends::end(hand),
         1 => lists::list(hand),
-        11 => states::state(hand),
-        13 => conversions::conversion(hand),
+        11 => steps::state(hand),
+        13 => lists::conversion(hand),
         _ => open_if_formed(hand, false),
     }
 }
 
-fn by_tag(hand: Hand, tag: u8, table: &mut [u8], log: &mut [u8], twin: &mut [u8]) -> Hand {
+fn by_tag(hand: Hand, tag: u8, table: &mut [u8], log: &mut [u8]) -> Hand {
     match tag {
         2..=6 => on_table(hand, tag, table),
-        7..=10 => on_log(hand, tag, log, twin),
-        12 => steps::step(hand, table, log, twin),
+        7..=10 => on_log(hand, tag, log),
+        12 => steps::step(hand, table, log),
         _ => on_rest(hand, tag),
     }
 }
@@ -143,31 +148,24 @@ fn with_record(hand: Hand, number: u32, tag: u8) -> Hand {
     after
 }
 
-// Where the input ends within a record, the rest of it reads as 0, and there is no tag after it.
-fn record(hand: Hand, number: u32, table: &mut [u8], log: &mut [u8], twin: &mut [u8]) -> Hand {
-    let mut tag = [255u8; 1];
-    io::read_full(STDIN_FILENO, &mut tag);
-    let now = with_record(hand, number, tag[0]);
-    by_tag(now, tag[0], table, log, twin)
-}
-
-// Record after record. `twin` holds what the log should be.
-fn replay(table: &mut [u8], log: &mut [u8], twin: &mut [u8]) -> Hand {
-    let mut hand = opened();
+// Record after record.
+fn replay(table: &mut [u8], log: &mut [u8]) -> Hand {
+    let mut hand = open_if_formed(empty(), taken::take_magic());
     let mut number: u32 = 0;
     while number < 4294967295 && hand.open {
         number += 1;
-        let next = record(hand, number, table, log, twin);
+        let tag = taken::take_tag();
+        let next = by_tag(with_record(hand, number, tag), tag, table, log);
         hand = next;
     }
     hand
 }
 
+// The log is held twice: as the library leaves it, and from byte 66,000 on as it should be.
 fn main() {
     let mut table = [0u8; 4200];
-    let mut log = [0u8; 66000];
-    let mut twin = [0u8; 66000];
-    let hand = replay(&mut table, &mut log, &mut twin);
+    let mut log = [0u8; 132000];
+    let hand = replay(&mut table, &mut log);
     let counts = hand.counts;
     if hand.agreed {
         told::summary(counts);

@@ -1,17 +1,24 @@
-// Records of steps: who runs, and then the step.
+// Records of states and steps. A step's record is two calls: who runs, and then the step.
 use crate::Hand;
 use crate::parts;
-use crate::sums;
-use crate::taken;
-use crate::told;
+use cases::taken;
+use cases::told;
 use run::Closed;
 use run::Runner;
 use run::State;
 
+pub(crate) fn state(hand: Hand) -> Hand {
+    let given = taken::take_state();
+    let state = given.state;
+    let mut after = hand;
+    after.state = state;
+    crate::open_if_formed(after, given.formed)
+}
+
 fn runner_agrees(number: u32, refusal: u32, task: usize) -> bool {
     let expected = taken::byte();
-    let next = taken::byte();
     let refused = told::agrees(number, b"who's refusal", expected as u32, refusal);
+    let next = taken::byte();
     let named = told::task_agrees(number, next as usize, task);
     refused & named
 }
@@ -33,71 +40,64 @@ fn refusal_of(closed: Closed) -> u32 {
 
 // A log of at most 64 bytes is summed together with the state.
 fn sum_of(state: State, log: &[u8]) -> u32 {
-    let sum = sums::of_state(state);
+    let sum = checksum::of_state(state);
     if 64 < log.len() {
         return sum;
     }
-    sums::with_bytes(sum, log)
+    checksum::with_bytes(sum, log)
 }
 
-// The changes that the record names, made in the twin: whether each is one, places rising.
-fn changes_made(twin: &mut [u8], changes: u8) -> bool {
+fn step_agrees(number: u32, refusal: u32, sum: u32) -> bool {
+    let expected = taken::byte();
+    let refused = told::agrees(number, b"refusal", expected as u32, refusal);
+    let next = taken::word();
+    let summed = told::agrees(number, b"state", next, sum);
+    refused & summed
+}
+
+fn stepped(hand: Hand, table: &[u8], log: &mut [u8]) -> Hand {
+    let clock = taken::word();
+    let report = taken::byte();
+    let before = hand.state;
+    let who = who_agrees(hand.number, run::who(before, table));
+    let next = run::step(before, table, log, clock, report);
+    let closed = next.answer;
+    let state = next.state;
+    let step = step_agrees(hand.number, refusal_of(closed), sum_of(state, log));
+    let mut after = hand;
+    after.state = state;
+    after.open = who & step;
+    after
+}
+
+// The changes of the log that the record names: whether each is one of the first bytes, places rising.
+fn changes_made(log: &mut [u8], count: usize, changes: u8) -> bool {
     let mut fine = true;
-    let mut from: u32 = 0;
+    let mut from = 0;
     let mut i = 0;
     while i < changes {
-        let place = taken::word();
+        let place = taken::size();
         let byte = taken::byte();
-        let made = parts::change(twin, place as usize, byte);
-        fine = fine & made & (from <= place);
-        from = std::num::wrapping_add_u32(place, 1);
+        let made = parts::change(log, place, byte);
+        fine = fine & made & (from <= place) & (place < count);
+        from = std::num::wrapping_add_usize(place, 1);
         i += 1;
     }
     fine
 }
 
-// Whether the changes that the record names are those that the log has seen.
-fn log_agrees(number: u32, log: &[u8], twin: &mut [u8]) -> bool {
+// Whether the log has seen the changes that the record names, and no others.
+fn log_agrees(number: u32, log: &mut [u8], count: usize) -> bool {
     let changes = taken::byte();
-    let made = changes_made(twin, changes);
-    let same = check::same(log, twin);
-    told::holds(number, b"changes of the log", made & same)
-}
-
-fn stepped(hand: Hand, clock: u32, report: u8, table: &[u8], log: &mut [u8]) -> Hand {
-    let number = hand.number;
-    let before = hand.state;
-    let who = who_agrees(number, run::who(before, table));
-    let next = run::step(before, table, log, clock, report);
-    let closed = next.answer;
-    let state = next.state;
-    let refusal = taken::byte();
-    let refused = told::agrees(number, b"refusal", refusal as u32, refusal_of(closed));
-    let sum = taken::word();
-    let summed = told::agrees(number, b"state", sum, sum_of(state, log));
-    let mut after = hand;
-    after.state = state;
-    after.open = who & refused & summed;
-    after
-}
-
-fn compared(hand: Hand, table: &[u8], log: &mut [u8], twin: &mut [u8]) -> Hand {
-    let clock = taken::word();
-    let report = taken::byte();
-    let after = stepped(hand, clock, report, table, log);
-    let logged = log_agrees(hand.number, log, twin);
-    crate::open_if(after, after.open & logged)
+    let made = changes_made(log, count, changes);
+    told::holds(number, b"changes of the log", made & parts::is_mirrored(log, count))
 }
 
 // With the parts that are lent.
-pub(crate) fn step(hand: Hand, table: &[u8], log: &mut [u8], twin: &mut [u8]) -> Hand {
+pub(crate) fn step(hand: Hand, table: &[u8], log: &mut [u8]) -> Hand {
     let entries = parts::within(hand.table_lent, table);
-    let first = parts::within(hand.log_lent, log);
-    let second = parts::within(hand.log_lent, twin);
-    compared(
-        hand,
-        &table[..entries],
-        &mut log[..first],
-        &mut twin[..second],
-    )
+    let bytes = parts::within(hand.log_lent, log);
+    let after = stepped(hand, &table[..entries], &mut log[..bytes]);
+    let logged = log_agrees(hand.number, log, hand.log_lent);
+    crate::open_if(after, after.open & logged)
 }

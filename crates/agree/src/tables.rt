@@ -2,9 +2,8 @@
 use crate::Hand;
 use crate::lists;
 use crate::parts;
-use crate::sums;
-use crate::taken;
-use crate::told;
+use cases::taken;
+use cases::told;
 use libc::STDIN_FILENO;
 
 // So many bytes are held, and all are lent.
@@ -19,7 +18,7 @@ pub(crate) fn fill(hand: Hand, table: &mut [u8]) -> Hand {
     let length = taken::size();
     let first = taken::byte();
     let count = parts::within(length, table);
-    parts::pattern(table, count, first);
+    parts::pattern(&mut table[..count], first);
     holding(hand, count, count == length)
 }
 
@@ -45,11 +44,11 @@ pub(crate) fn lent(hand: Hand) -> Hand {
 }
 
 fn built(hand: Hand, table: &mut [u8]) -> bool {
-    let expected = taken::take_answer();
-    let sum = taken::word();
     let found = lists::answer_of(verdict::build(hand.list, hand.supply, table));
+    let expected = taken::take_answer();
     let answer = told::answer_agrees(hand.number, expected, found);
-    let bytes = told::agrees(hand.number, b"table", sum, sums::of_bytes(table));
+    let sum = taken::word();
+    let bytes = told::agrees(hand.number, b"table", sum, checksum::of_bytes(table));
     answer & bytes
 }
 
