@@ -90,7 +90,11 @@ fn changes_made(log: &mut [u8], count: usize, changes: u8) -> bool {
 fn log_agrees(number: u32, log: &mut [u8], count: usize) -> bool {
     let changes = taken::byte();
     let made = changes_made(log, count, changes);
-    told::holds(number, b"changes of the log", made & parts::is_mirrored(log, count))
+    told::holds(
+        number,
+        b"changes of the log",
+        made & parts::is_mirrored(log, count),
+    )
 }
 
 // With the parts that are lent.

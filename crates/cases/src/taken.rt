@@ -138,7 +138,11 @@ fn take_jobs() -> Jobs {
 }
 
 fn mode_of(byte: u8) -> Mode {
-    if byte == 0 { Mode::Table } else { Mode::Filling }
+    if byte == 0 {
+        Mode::Table
+    } else {
+        Mode::Filling
+    }
 }
 
 fn take_count() -> usize {

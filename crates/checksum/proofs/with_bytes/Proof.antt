@@ -32,7 +32,7 @@ loop-less : tie.Need-loop-less Inv-loop μ-loop
 loop-less c = search needs
 
 loop-again : tie.Need-loop-again Inv-loop μ-loop
-unfolding overBytes 
+unfolding overBytes
 loop-again c = (omega arith, rw add-one (cc))
 
 returns : tie.Need-returns Inv-loop μ-loop

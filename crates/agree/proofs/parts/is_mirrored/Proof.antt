@@ -1,47 +1,38 @@
+-- `parts::is_mirrored` is safe and ends.
+use Prim.Native.Nat.{_-_}
+use borrow.Author.Needs.{needs}
 use Rattle.agree.proofs.parts.is_mirrored.Statement.{statement}
 use Rattle.agree.proofs.parts.is_mirrored.Tie as tie
-use Rattle.agree.proofs.parts.is_mirrored.Reads as reads
-use Rattle.agree.proofs.parts.is_mirrored.Lts as lts
-use Rattle.agree.proofs.parts.byte_at.Reads as byte-at-reads
-use Rattle.agree.proofs.parts.second.Reads as second-reads
 
 abbrev Inv-loop : tie.InvT-loop
-Inv-loop log count same₀ i₀ same i = ?
+Inv-loop log count same₀ i₀ same i = Unit {0}
 
 abbrev μ-loop : tie.MeasureT-loop
-μ-loop log count same₀ i₀ same i = ?
+μ-loop log count same₀ i₀ same i = count - i
 
--- src/parts.rt:56:5
 loop-holds : tie.Need-loop-holds Inv-loop μ-loop
-loop-holds c = ?
+loop-holds c = search needs
 
--- src/parts.rt:57:24
 byte-at-requires : tie.Need-byte-at-requires Inv-loop μ-loop
-byte-at-requires c κs = ?
+byte-at-requires c κs = search needs
 
--- src/parts.rt:57:56
 second-requires : tie.Need-second-requires Inv-loop μ-loop
-second-requires c κs = ?
+second-requires c κs = search needs
 
--- src/parts.rt:57:43
 byte-at-requires-2 : tie.Need-byte-at-requires-2 Inv-loop μ-loop
-byte-at-requires-2 c κs = ?
+byte-at-requires-2 c κs = search needs
 
--- src/parts.rt:58:9
 add-i : tie.Need-add-i Inv-loop μ-loop
-add-i c = ?
+add-i c = search needs
 
--- src/parts.rt:56:5
 loop-less : tie.Need-loop-less Inv-loop μ-loop
-loop-less c = ?
+loop-less c = search needs
 
--- src/parts.rt:56:5
 loop-again : tie.Need-loop-again Inv-loop μ-loop
-loop-again c = ?
+loop-again c = search needs
 
--- src/parts.rt:53:1
 returns : tie.Need-returns Inv-loop μ-loop
-returns c = ?
+returns c = search needs
 
 pub is-mirrored-spec : {M : Type 1} → statement M
 is-mirrored-spec =

@@ -1,52 +1,43 @@
+-- `parts::mirror` is safe and ends.
+use Prim.Native.Nat.{_-_}
+use borrow.Author.Needs.{needs}
+use lib.ListN.{length}
+use mathlib.Core.Path.{_≡_}
 use Rattle.agree.proofs.parts.mirror.Statement.{statement}
 use Rattle.agree.proofs.parts.mirror.Tie as tie
-use Rattle.agree.proofs.parts.mirror.Reads as reads
-use Rattle.agree.proofs.parts.mirror.Lts as lts
-use Rattle.agree.proofs.parts.byte_at.Reads as byte-at-reads
-use Rattle.agree.proofs.parts.put.Reads as put-reads
-use Rattle.agree.proofs.parts.second.Reads as second-reads
 
 abbrev Inv-loop : tie.InvT-loop
-Inv-loop log₀ count i₀ log i = ?
+Inv-loop log₀ count i₀ log i = length log ≡ length log₀
 
 abbrev μ-loop : tie.MeasureT-loop
-μ-loop log₀ count i₀ log i = ?
+μ-loop log₀ count i₀ log i = count - i
 
--- src/parts.rt:46:5
 loop-holds : tie.Need-loop-holds Inv-loop μ-loop
-loop-holds c = ?
+loop-holds c = search needs
 
--- src/parts.rt:47:18
 second-requires : tie.Need-second-requires Inv-loop μ-loop
-second-requires c κs = ?
+second-requires c κs = search needs
 
--- src/parts.rt:47:29
 byte-at-requires : tie.Need-byte-at-requires Inv-loop μ-loop
-byte-at-requires c κs = ?
+byte-at-requires c κs = search needs
 
--- src/parts.rt:47:9
 put-requires : tie.Need-put-requires Inv-loop μ-loop
-put-requires c κs = ?
+put-requires c κs = search needs
 
--- src/parts.rt:48:9
 add-i : tie.Need-add-i Inv-loop μ-loop
-add-i c = ?
+add-i c = search needs
 
--- src/parts.rt:46:5
 loop-less : tie.Need-loop-less Inv-loop μ-loop
-loop-less c = ?
+loop-less c = search needs
 
--- src/parts.rt:46:5
 loop-again : tie.Need-loop-again Inv-loop μ-loop
-loop-again c = ?
+loop-again c = search needs
 
--- src/parts.rt:44:1
 same-length : tie.Need-same-length Inv-loop μ-loop
-same-length c = ?
+same-length c = c .before .loop .inv
 
--- src/parts.rt:44:1
 returns : tie.Need-returns Inv-loop μ-loop
-returns c = ?
+returns c = search needs
 
 pub mirror-spec : {M : Type 1} → statement M
 mirror-spec =

@@ -1,46 +1,40 @@
+-- `parts::pattern` is safe and ends.
+use Prim.Native.Nat.{_-_}
+use borrow.Author.Needs.{needs}
+use lib.ListN.{length}
+use mathlib.Core.Path.{_≡_}
 use Rattle.agree.proofs.parts.pattern.Statement.{statement}
 use Rattle.agree.proofs.parts.pattern.Tie as tie
-use Rattle.agree.proofs.parts.pattern.Reads as reads
-use Rattle.agree.proofs.parts.pattern.Lts as lts
-use Rattle.std.proofs.num.wrapping_add_u8.Reads as wrapping-add-u8-reads
 
 abbrev Inv-loop : tie.InvT-loop
-Inv-loop bytes₀ fill next₀ i₀ bytes next i = ?
+Inv-loop bytes₀ fill next₀ i₀ bytes next i = length bytes ≡ length bytes₀
 
 abbrev μ-loop : tie.MeasureT-loop
-μ-loop bytes₀ fill next₀ i₀ bytes next i = ?
+μ-loop bytes₀ fill next₀ i₀ bytes next i = length bytes₀ - i
 
--- src/parts.rt:19:5
 loop-holds : tie.Need-loop-holds Inv-loop μ-loop
-loop-holds c = ?
+loop-holds c = search needs
 
--- src/parts.rt:20:9
 slice-write-bytes : tie.Need-slice-write-bytes Inv-loop μ-loop
-slice-write-bytes c = ?
+slice-write-bytes c = search needs
 
--- src/parts.rt:21:9
 wrapping-add-u8-requires : tie.Need-wrapping-add-u8-requires Inv-loop μ-loop
-wrapping-add-u8-requires c κs = ?
+wrapping-add-u8-requires c κs = search needs
 
--- src/parts.rt:22:9
 add-i : tie.Need-add-i Inv-loop μ-loop
-add-i c = ?
+add-i c = search needs
 
--- src/parts.rt:19:5
 loop-less : tie.Need-loop-less Inv-loop μ-loop
-loop-less c = ?
+loop-less c = search needs
 
--- src/parts.rt:19:5
 loop-again : tie.Need-loop-again Inv-loop μ-loop
-loop-again c = ?
+loop-again c = search needs
 
--- src/parts.rt:16:1
 same-length : tie.Need-same-length Inv-loop μ-loop
-same-length c = ?
+same-length c = search needs
 
--- src/parts.rt:16:1
 returns : tie.Need-returns Inv-loop μ-loop
-returns c = ?
+returns c = search needs
 
 pub pattern-spec : {M : Type 1} → statement M
 pattern-spec =
