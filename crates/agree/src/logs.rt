@@ -1,12 +1,11 @@
 // Records of the log and of starts.
 use crate::Hand;
 use crate::parts;
-use cases::Answer;
+use cases::compared;
 use cases::taken;
 use cases::told;
 use run::State;
 use start::Asked;
-use start::Begun;
 
 // So many bytes are held, and all are lent.
 fn holding(hand: Hand, length: usize) -> Hand {
@@ -50,24 +49,6 @@ fn asked_of(mode: u8) -> Asked {
     }
 }
 
-// An accepted start answers nothing beside the state; the verdict on the list stands for it.
-fn answer_of(begun: Begun, verdict: Answer) -> Answer {
-    match begun {
-        Begun::Accepted => verdict,
-        Begun::Refused {
-            number,
-            task,
-            margin,
-        } => Answer {
-            refusal: number,
-            task,
-            margin,
-            cycle: 0,
-            jobs: 0,
-        },
-    }
-}
-
 fn sums_agree(number: u32, state: State, log: &[u8]) -> bool {
     let first = taken::word();
     let of_state = told::agrees(number, b"state", first, checksum::of_state(state));
@@ -80,7 +61,7 @@ fn started(hand: Hand, mode: u8, clock: u32, log: &mut [u8]) -> Hand {
     let next = start::start(hand.list, hand.supply, asked_of(mode), clock, log);
     let begun = next.answer;
     let state = next.state;
-    let found = answer_of(begun, hand.verdict);
+    let found = compared::start_answer_of(begun, hand.verdict);
     let expected = taken::take_answer();
     let answer = told::answer_agrees(hand.number, expected, found);
     let sums = sums_agree(hand.number, state, log);

@@ -1,10 +1,9 @@
 // Records of states and steps. A step's record is two calls: who runs, and then the step.
 use crate::Hand;
 use crate::parts;
+use cases::compared;
 use cases::taken;
 use cases::told;
-use run::Closed;
-use run::Runner;
 use run::State;
 
 pub(crate) fn state(hand: Hand) -> Hand {
@@ -13,29 +12,6 @@ pub(crate) fn state(hand: Hand) -> Hand {
     let mut after = hand;
     after.state = state;
     crate::open_if_formed(after, given.formed)
-}
-
-fn runner_agrees(number: u32, refusal: u32, task: usize) -> bool {
-    let expected = taken::byte();
-    let refused = told::agrees(number, b"who's refusal", expected as u32, refusal);
-    let next = taken::byte();
-    let named = told::task_agrees(number, next as usize, task);
-    refused & named
-}
-
-fn who_agrees(number: u32, runner: Runner) -> bool {
-    match runner {
-        Runner::Idle => runner_agrees(number, 0, 0),
-        Runner::Task(task) => runner_agrees(number, 0, task),
-        Runner::Refused(refusal) => runner_agrees(number, refusal, 0),
-    }
-}
-
-fn refusal_of(closed: Closed) -> u32 {
-    match closed {
-        Closed::Accepted => 0,
-        Closed::Refused(number) => number,
-    }
 }
 
 // A log of at most 64 bytes is summed together with the state.
@@ -47,23 +23,15 @@ fn sum_of(state: State, log: &[u8]) -> u32 {
     checksum::with_bytes(sum, log)
 }
 
-fn step_agrees(number: u32, refusal: u32, sum: u32) -> bool {
-    let expected = taken::byte();
-    let refused = told::agrees(number, b"refusal", expected as u32, refusal);
-    let next = taken::word();
-    let summed = told::agrees(number, b"state", next, sum);
-    refused & summed
-}
-
 fn stepped(hand: Hand, table: &[u8], log: &mut [u8]) -> Hand {
     let clock = taken::word();
     let report = taken::byte();
     let before = hand.state;
-    let who = who_agrees(hand.number, run::who(before, table));
+    let who = compared::who_agrees(hand.number, run::who(before, table));
     let next = run::step(before, table, log, clock, report);
     let closed = next.answer;
     let state = next.state;
-    let step = step_agrees(hand.number, refusal_of(closed), sum_of(state, log));
+    let step = compared::step_agrees(hand.number, closed, sum_of(state, log));
     let mut after = hand;
     after.state = state;
     after.open = who & step;

@@ -1,7 +1,7 @@
 // Records of the table.
 use crate::Hand;
-use crate::lists;
 use crate::parts;
+use cases::compared;
 use cases::taken;
 use cases::told;
 use libc::STDIN_FILENO;
@@ -44,7 +44,7 @@ pub(crate) fn lent(hand: Hand) -> Hand {
 }
 
 fn built(hand: Hand, table: &mut [u8]) -> bool {
-    let found = lists::answer_of(verdict::build(hand.list, hand.supply, table));
+    let found = compared::answer_of(verdict::build(hand.list, hand.supply, table));
     let expected = taken::take_answer();
     let answer = told::answer_agrees(hand.number, expected, found);
     let sum = taken::word();

@@ -2,6 +2,7 @@
 // output.
 pub mod taken; // numbers, lists and states
 pub mod told; // what disagrees, or that all agree
+pub mod compared; // answers of the library beside those of the file
 
 // An answer in the file's numbers. Refusal 0 is acceptance.
 pub struct Answer {
