@@ -1,4 +1,6 @@
 // Whether an answer of the library is the one that comes next in the file. If not, that is told.
+ghost use mathlib.Core.Path.{_≡_};
+ghost use Rattle.cases.specs.File.{answerOf, startAnswerOf};
 use crate::Answer;
 use crate::taken;
 use crate::told;
@@ -8,7 +10,9 @@ use start::Begun;
 use units::Slices;
 use verdict::Verdict;
 
-pub fn answer_of(verdict: Verdict) -> Answer {
+pub fn answer_of(verdict: Verdict) -> Answer
+    ensures { λ r. ⌜ r ≡ answerOf verdict ⌝ }
+{
     match verdict {
         Verdict::Accepted {
             cycle,
@@ -37,7 +41,9 @@ pub fn answer_of(verdict: Verdict) -> Answer {
 }
 
 // An accepted start answers nothing beside the state; the verdict on the list stands for it.
-pub fn start_answer_of(begun: Begun, verdict: Answer) -> Answer {
+pub fn start_answer_of(begun: Begun, verdict: Answer) -> Answer
+    ensures { λ r. ⌜ r ≡ startAnswerOf begun verdict ⌝ }
+{
     match begun {
         Begun::Accepted => verdict,
         Begun::Refused {

@@ -1,5 +1,6 @@
 // What the program says: the first record that disagrees and what disagreed, or how many calls agree.
 ghost use mathlib.Core.Path.{_≡_};
+ghost use mathlib.Core.Bool.{true};
 ghost use lib.Dec.{eqb};
 use crate::Answer;
 use libc::STDOUT_FILENO;
@@ -62,10 +63,23 @@ pub fn holds(number: u32, what: &[u8], fine: bool) -> bool
     false
 }
 
-pub fn answer_agrees(number: u32, expected: Answer, found: Answer) -> bool {
+fn margin_agrees(number: u32, expected: i32, found: i32) -> bool
+    ensures { λ r. ⌜ (r ≡ true → expected ≡ found) × (expected ≡ found → r ≡ true) ⌝ }
+{
+    if expected == found {
+        return true;
+    }
+    record(number, b"margin\n");
+    false
+}
+
+// Whether an answer is the expected one, number by number.
+pub fn answer_agrees(number: u32, expected: Answer, found: Answer) -> bool
+    ensures { λ r. ⌜ (r ≡ true → expected ≡ found) × (expected ≡ found → r ≡ true) ⌝ }
+{
     let refusal = agrees(number, b"refusal", expected.refusal, found.refusal);
     let task = task_agrees(number, expected.task, found.task);
-    let margin = holds(number, b"margin", expected.margin == found.margin);
+    let margin = margin_agrees(number, expected.margin, found.margin);
     let cycle = agrees(number, b"cycle", expected.cycle, found.cycle);
     let jobs = agrees(number, b"jobs", expected.jobs, found.jobs);
     refusal & task & margin & cycle & jobs
