@@ -5,9 +5,10 @@ use mathlib.Core.Logic.{⊎-elim}
 use Prim.Native.Nat.{ℕ, suc, _+_, _-_, _≤_, _<_, min}
 use native.Mathlib.Omega.{arith}
 use native.Mathlib.Nat.{mul-le-mul-right}
-use Rattle.basis.specs.Choose.{le-or-lt}
+use Rattle.basis.specs.Choose.{le-or-lt, eq-or-ne}
 use Rattle.plan.specs.Plan.{Plan, Sound, Demand, release, deadline, job, age, gets, had, entry, given}
-use Rattle.plan.specs.Run.{age-below, release-age, had-since, had-after, given-in-none}
+use Rattle.plan.specs.Run.{age-below, release-age, had-since, had-after, given-in-none, given-more}
+use Rattle.plan.specs.Work.{gets-cases}
 
 -- How many slices of its window, from release to deadline, lie before slice t.
 unfoldable pub elapsed : Plan → ℕ → ℕ → ℕ → ℕ
@@ -58,3 +59,19 @@ module _ (P : Plan) (S : Sound P) (d : Demand) (i : ℕ) (li : i < P .count) whe
   pub settled : (k t : ℕ) → deadline P i k ≤ t → hadUpTo P d i k t ≡ given P d i (release P i k) (P .due i)
   unfolding hadUpTo elapsed deadline
   settled k t l = ap (given P d i (release P i k)) (omega arith)
+
+-- What a job has had grows in slices of its own task alone.
+pub grows-in-own : (P : Plan) (d : Demand) (i k t : ℕ) → hadUpTo P d i k t < hadUpTo P d i k (suc t) → entry P d t ≡ suc i
+unfolding hadUpTo elapsed
+grows-in-own P d i k t more =
+    ⊎-elim
+    (λ (g : (entry P d t ≡ suc i) × (gets (entry P d t) i ≡ 1)). g .0)
+    (λ (g : (entry P d t ≡ suc i → ⊥) × (gets (entry P d t) i ≡ 0)).
+    ⊎-elim
+    (λ (e : elapsed P i k (suc t) ≡ elapsed P i k t). absurd (omega (arith, ap (given P d i (release P i k)) e)))
+    (λ (ne : elapsed P i k (suc t) ≡ elapsed P i k t → ⊥).
+    let one-more : elapsed P i k (suc t) ≡ suc (elapsed P i k t) = omega arith in
+    let here : release P i k + elapsed P i k t ≡ t = omega arith in
+    absurd (omega (arith, ap (given P d i (release P i k)) one-more, given-more P d i (release P i k) (elapsed P i k t), ap (λ (x : ℕ). gets (entry P d x) i) here, g .1)))
+    (eq-or-ne (elapsed P i k (suc t)) (elapsed P i k t)))
+    (gets-cases (entry P d t) i)

@@ -93,7 +93,7 @@ module _ (l : TaskList) (supply : ℕ) (K : KeepsBounds l supply) (m : Mode) (cl
   unfolding startState jobOf
   start-job i = ⊎-elim (λ (h : 16 ≤ i). List·getD-eq-default (replicate 16 fresh) fresh {n = i} (omega (arith, length-replicate 16 fresh))) (λ (h : i < 16). getD-replicate 16 i fresh fresh h) (le-or-lt 16 i)
 
-  start-carries : Carries (planOf l) (cycleOf l) s
+  pub start-carries : Carries (planOf l) (cycleOf l) s
   unfolding planOf startState
   start-carries = record {
     count-is = refl;

@@ -371,6 +371,15 @@ module _ (l : TaskList) (supply : ℕ) (K : KeepsBounds l supply) where
       T = tightest-law (planOf l) (l .count) (K .some) (omega arith)
 
 -- ---- the table
+-- Building is accepted only if the list is.
+pub list-accepted : (l : TaskList) (supply : ℕ) (old new : List ℕ) (v : Verdict) → Built l supply old new v → numbers v .number ≡ 0 → numbers (verdictOf l supply) .number ≡ 0
+unfolding numbers fitted
+list-accepted l supply old new v B z = go (verdictOf l supply) refl
+  where
+    go : (w : Verdict) → verdictOf l supply ≡ w → numbers (verdictOf l supply) .number ≡ 0
+    go (Accepted c j t m) q = ap (λ (x : Verdict). numbers x .number) q
+    go (Refused n t m) q = ap (λ (x : Verdict). numbers x .number) q ∙ sym (ap (λ (x : Verdict). numbers x .number) (B .answer ∙ ap (λ (x : Verdict). fitted x (length old)) q)) ∙ z
+
 module _ (l : TaskList) (supply : ℕ) (K : KeepsBounds l supply) (old new : List ℕ) (v : Verdict) (B : Built l supply old new v) where
   -- Where building is accepted, the table is the slice rule's, entry for entry, up to the cycle's end, and the bytes beyond are as they were;
   pub record TableOf : Type 0 where
@@ -379,19 +388,10 @@ module _ (l : TaskList) (supply : ℕ) (K : KeepsBounds l supply) (old new : Lis
     pub entries : (t : ℕ) → t < cycleOf l → getD new t 0 ≡ table (planOf l) t
     pub beyond : (t : ℕ) → cycleOf l ≤ t → getD new t 0 ≡ getD old t 0
 
-  -- Building is accepted only if the list is and the table reaches the cycle's end.
-  list-accepted : numbers v .number ≡ 0 → numbers (verdictOf l supply) .number ≡ 0
-  unfolding numbers fitted
-  list-accepted z = go (verdictOf l supply) refl
-    where
-      go : (w : Verdict) → verdictOf l supply ≡ w → numbers (verdictOf l supply) .number ≡ 0
-      go (Accepted c j t m) q = ap (λ (x : Verdict). numbers x .number) q
-      go (Refused n t m) q = ap (λ (x : Verdict). numbers x .number) q ∙ sym (ap (λ (x : Verdict). numbers x .number) (B .answer ∙ ap (λ (x : Verdict). fitted x (length old)) q)) ∙ z
-
   built-as : numbers v .number ≡ 0 → (cycleOf l ≤ length old) × (new ≡ overwrite (table (planOf l)) (cycleOf l) old)
   unfolding numbers fitted tabled
   built-as z =
-      let e = accepted-as l supply (list-accepted z) .is in
+      let e = accepted-as l supply (list-accepted l supply old new v B z) .is in
       let answer = B .answer ∙ ap (λ (x : Verdict). fitted x (length old)) e in
       ⊎-elim
       (λ (r : cycleOf l ≤ length old).
@@ -416,6 +416,6 @@ module _ (l : TaskList) (supply : ℕ) (K : KeepsBounds l supply) (old new : Lis
   unfolding planOf
   fills z i li =
       let T = table-is z in
-      let on = accepted-on-time l supply K .0 (list-accepted z) in
+      let on = accepted-on-time l supply K .0 (list-accepted l supply old new v B z) in
       sum-ext (λ t. gets (getD new t 0) i) (λ t. gets (table (planOf l) t) i) (cycleOf l) (λ t lt. ap (λ (e : ℕ). gets e i) (T .entries t lt))
       ∙ entries-in-cycle (planOf l) (plan-monotonic l supply K) i (cycleOf l) li (period-divides-cycle l supply K i li) on

@@ -6,28 +6,28 @@ use mathlib.Core.Path.{_≡_, refl, sym, ap, ap₂, _∙_}
 use mathlib.Core.List.{List}
 use mathlib.Core.Bool.{Bool, true, not, true≢false}
 use mathlib.Core.Logic.{⊎-elim}
-use Prim.Native.Nat.{ℕ, _+_, _/_, _≤_, _<_}
+use Prim.Native.Nat.{ℕ, zero, suc, _+_, _*_, _/_, _≤_, _<_}
 use native.Mathlib.Omega.{arith}
-use native.Mathlib.Nat.{div-mul-le-self, mul-le-mul-right}
+use native.Mathlib.Nat.{div-mul-le-self, div-mul-cancel, mul-le-mul-right}
 use lib.Dec.{eqb, leb}
 use lib.ListN.{length, getD}
 use borrow.Author.Tests.{eq-eqb, ne-eqb}
-use Rattle.basis.specs.Choose.{choose, le-or-lt}
+use Rattle.basis.specs.Choose.{choose, le-or-lt, eq-or-ne}
 use Rattle.basis.specs.Sum.{sum-ext}
 use Rattle.basis.specs.Least.{least, least-law}
-use Rattle.plan.specs.Plan.{Monotonic, Demand, release, deadline, takes, HadBy, OnTime, OnTimeUpTo}
-use Rattle.plan.specs.Progress.{elapsed, hadUpTo, settled}
+use Rattle.plan.specs.Plan.{Monotonic, Demand, release, deadline, entry, takes, HadBy, OnTime, OnTimeUpTo}
+use Rattle.plan.specs.Progress.{elapsed, hadUpTo, settled, nothing-before-release, grows-in-own}
 use Rattle.plan.specs.Domination.{filling-ends-no-later, lower-needs-delay-none}
 use Rattle.tasks.specs.declared.TaskList.{TaskList}
 use Rattle.tasks.specs.List.{taskAt, planOf}
 use Rattle.tasks.specs.Bounds.{cycleOf, jobSum, jobsOf}
-use Rattle.tasks.specs.Kept.{plan-monotonic}
+use Rattle.tasks.specs.Kept.{plan-monotonic, cycle-pos, period-divides-cycle}
 use Rattle.start.specs.declared.Asked.{Asked}
 use Rattle.run.specs.declared.Mode.the-variants.{Table, Filling}
 use Rattle.run.specs.declared.Closed.the-variants as closed
 use Rattle.run.specs.State.{offset, jobCount}
 use Rattle.start.specs.Start.{modeOf, begunNumbers}
-use Rattle.promises.specs.Drive.{Own, Drive, placeOf, endIn}
+use Rattle.promises.specs.Drive.{Own, Drive, placeOf, isLogged, endIn}
 use Rattle.promises.specs.Reached.{Reached, resultByte, result-some, byteUpTo, byte-result, byte-none}
 use Rattle.promises.specs.Driven.{demandOf, run-enough, run-on-time, reaches, none-refused}
 use Rattle.promises.specs.Begun.{Accepted, start-accepted, start-reached}
@@ -95,6 +95,19 @@ module _ (l : TaskList) (supply : ℕ) (asked : Asked) (clock : ℕ) (need : Dem
       enough-run : (i k : ℕ) → i < l .count → takes (planOf l) need i k ≤ demandOf (modeOf asked) (planOf l) need i k
       enough-run i k li = run-enough (planOf l) need (modeOf asked) i k
 
+  -- Every task has a job in the cycle.
+  pub has-job : (i : ℕ) → i < l .count → 0 < cycleOf l / planOf l .period i
+  unfolding planOf
+  has-job i li =
+      let T = planOf l .period i in
+      ⊎-elim
+      (λ (z : cycleOf l / T ≡ 0). absurd (omega (arith, ap (λ (x : ℕ). x * T) z, div-mul-cancel T (period-divides-cycle l supply (A .keeps) i li), cycle-pos l supply (A .keeps))))
+      (λ (nz : cycleOf l / T ≡ 0 → ⊥). omega arith)
+      (eq-or-ne (cycleOf l / T) 0)
+
+  pub has-task : 0 < l .count
+  has-task = A .keeps .some
+
   -- ---- the log after the drive
   -- Each byte is 1 where the need is at most the run-time, and 2 elsewhere: none is 3, none is 0.
   pub logged : (i k : ℕ) → i < l .count → k < cycleOf l / planOf l .period i → getD (D .logs (cycleOf l)) (placeOf l i k) 0 ≡ choose (leb (need i k) (planOf l .runtime i k)) 1 2
@@ -112,7 +125,8 @@ module _ (l : TaskList) (supply : ℕ) (asked : Asked) (clock : ℕ) (need : Dem
   length-kept = reached (cycleOf l) (omega arith) .long
 
   -- A job is logged by position p exactly if it has had what it takes by then.
-  logged-has : (p : ℕ) → p ≤ cycleOf l → (i k : ℕ) → i < l .count → k < cycleOf l / planOf l .period i → not (eqb (getD (D .logs p) (placeOf l i k) 0) 0) ≡ true → takes (planOf l) need i k ≤ hadUpTo (planOf l) d i k p
+  pub logged-has : (p : ℕ) → p ≤ cycleOf l → (i k : ℕ) → i < l .count → k < cycleOf l / planOf l .period i → isLogged l (D .logs) i k p ≡ true → takes (planOf l) need i k ≤ hadUpTo (planOf l) d i k p
+  unfolding isLogged
   logged-has p lp i k li lk t =
       ⊎-elim
       (λ (h : takes (planOf l) need i k ≤ hadUpTo (planOf l) d i k p). h)
@@ -120,9 +134,79 @@ module _ (l : TaskList) (supply : ℕ) (asked : Asked) (clock : ℕ) (need : Dem
       absurd (true≢false (sym t ∙ ap not (eq-eqb _ 0 (byte-at p lp i k li lk ∙ byte-none (planOf l) need d i k p h)))))
       (le-or-lt (takes (planOf l) need i k) (hadUpTo (planOf l) d i k p))
 
-  has-logged : (p : ℕ) → p ≤ cycleOf l → (i k : ℕ) → i < l .count → k < cycleOf l / planOf l .period i → takes (planOf l) need i k ≤ hadUpTo (planOf l) d i k p → not (eqb (getD (D .logs p) (placeOf l i k) 0) 0) ≡ true
+  has-logged : (p : ℕ) → p ≤ cycleOf l → (i k : ℕ) → i < l .count → k < cycleOf l / planOf l .period i → takes (planOf l) need i k ≤ hadUpTo (planOf l) d i k p → isLogged l (D .logs) i k p ≡ true
+  unfolding isLogged
   has-logged p lp i k li lk h =
       ap not (ne-eqb _ 0 (λ z. result-some (planOf l) need i k (sym (byte-at p lp i k li lk ∙ byte-result (planOf l) need d i k p h) ∙ z)))
+
+  -- ---- its end
+  -- A job ends with a slice of its own task,
+  pub record EndsIn (i k p : ℕ) : Type 0 where
+    pub end-is : endIn l (D .logs) i k ≡ suc p
+    pub own-slice : entry (planOf l) d p ≡ suc i
+
+  takes-some : (i k : ℕ) → i < l .count → 1 ≤ takes (planOf l) need i k
+  unfolding takes planOf
+  takes-some i k li = omega (arith, needs i k li, M .runtime-pos i li)
+
+  -- logged at its end,
+  logged-at-end : (i k : ℕ) → i < l .count → k < cycleOf l / planOf l .period i → isLogged l (D .logs) i k (endIn l (D .logs) i k) ≡ true
+  unfolding endIn
+  logged-at-end i k li lk =
+      let law = least-law (isLogged l (D .logs) i k) (cycleOf l) in
+      ⊎-elim
+      (λ (e : endIn l (D .logs) i k ≡ cycleOf l). ap (isLogged l (D .logs) i k) e ∙ has-logged (cycleOf l) (omega arith) i k li lk (has-ended i k li lk))
+      (λ (ne : endIn l (D .logs) i k ≡ cycleOf l → ⊥). law .passes (omega (arith, law .within)))
+      (eq-or-ne (endIn l (D .logs) i k) (cycleOf l))
+
+  pub end-within : (i k : ℕ) → endIn l (D .logs) i k ≤ cycleOf l
+  unfolding endIn
+  end-within i k = least-law (isLogged l (D .logs) i k) (cycleOf l) .within
+
+  -- and not in any slice before
+  open-before-end : (i k p : ℕ) → i < l .count → k < cycleOf l / planOf l .period i → p < endIn l (D .logs) i k → hadUpTo (planOf l) d i k p < takes (planOf l) need i k
+  unfolding endIn
+  open-before-end i k p li lk lp =
+      ⊎-elim
+      (λ (h : takes (planOf l) need i k ≤ hadUpTo (planOf l) d i k p).
+      absurd (true≢false (sym (has-logged p (omega (arith, end-within i k)) i k li lk h) ∙ least-law (isLogged l (D .logs) i k) (cycleOf l) .none-before p lp)))
+      (λ (h : hadUpTo (planOf l) d i k p < takes (planOf l) need i k). h)
+      (le-or-lt (takes (planOf l) need i k) (hadUpTo (planOf l) d i k p))
+
+  pub ends-in-own-slice : (i k : ℕ) → i < l .count → k < cycleOf l / planOf l .period i → (p : ℕ) × EndsIn i k p
+  unfolding planOf
+  ends-in-own-slice i k li lk = go (endIn l (D .logs) i k) refl
+    where
+      had-at-end : takes (planOf l) need i k ≤ hadUpTo (planOf l) d i k (endIn l (D .logs) i k)
+      had-at-end = logged-has (endIn l (D .logs) i k) (end-within i k) i k li lk (logged-at-end i k li lk)
+
+      go : (e : ℕ) → endIn l (D .logs) i k ≡ e → (p : ℕ) × EndsIn i k p
+      go zero e = absurd (omega (arith, had-at-end, ap (hadUpTo (planOf l) d i k) e, nothing-before-release (planOf l) (M .sound) d i li k 0 (omega arith), takes-some i k li))
+      go (suc p) e = (
+        p,
+        record {
+          end-is = e;
+          own-slice = grows-in-own (planOf l) d i k p (omega (arith, open-before-end i k p li lk (omega arith), had-at-end, ap (hadUpTo (planOf l) d i k) e));
+        },
+      )
+
+  -- which changes the log;
+  pub logging-shows : (i k p : ℕ) → i < l .count → k < cycleOf l / planOf l .period i → EndsIn i k p → D .logs (suc p) ≡ D .logs p → ⊥
+  unfolding endIn isLogged
+  logging-shows i k p li lk E same =
+      true≢false
+      (sym (ap (isLogged l (D .logs) i k) (sym (E .end-is)) ∙ logged-at-end i k li lk)
+      ∙ ap (λ (g : List ℕ). not (eqb (getD g (placeOf l i k) 0) 0)) same
+      ∙ least-law (isLogged l (D .logs) i k) (cycleOf l) .none-before p (omega (arith, E .end-is)))
+
+  -- and jobs of different tasks never end together: no step closes more than one.
+  pub ends-differ : (i k j m : ℕ) → i < l .count → k < cycleOf l / planOf l .period i → j < l .count → m < cycleOf l / planOf l .period j
+      → (i ≡ j → ⊥) → endIn l (D .logs) i k ≡ endIn l (D .logs) j m → ⊥
+  ends-differ i k j m li lk lj lm ne same =
+      let x = ends-in-own-slice i k li lk in
+      let y = ends-in-own-slice j m lj lm in
+      let together : x .0 ≡ y .0 = omega (arith, x .1 .end-is, y .1 .end-is) in
+      ne (omega (arith, x .1 .own-slice, y .1 .own-slice, ap (entry (planOf l) d) together))
 
 -- ---- ends
 -- what passes sooner has a smaller least

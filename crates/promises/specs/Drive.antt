@@ -2,7 +2,7 @@
 -- table, the right clock reading, and the report that each job's need makes.
 use mathlib.Core.Path.{_≡_}
 use mathlib.Core.List.{List}
-use mathlib.Core.Bool.{not}
+use mathlib.Core.Bool.{Bool, not}
 use Prim.Native.Nat.{ℕ, zero, suc, _+_, _/_, _≤_, _<_}
 use lib.Dec.{eqb}
 use lib.ListN.{length, getD}
@@ -50,6 +50,10 @@ pub record Drive (l : TaskList) (supply : ℕ) (asked : Asked) (clock : ℕ) (ne
 unfoldable pub placeOf : TaskList → ℕ → ℕ → ℕ
 placeOf l i k = jobSum (l .tasks) (cycleOf l) i + k
 
+-- It is logged before step p once its byte is not 0.
+unfoldable pub isLogged : TaskList → (ℕ → List ℕ) → ℕ → ℕ → ℕ → Bool
+isLogged l logs i k p = not (eqb (getD (logs p) (placeOf l i k) 0) 0)
+
 -- The end of a job: the position after the step that logs it.
 unfoldable pub endIn : TaskList → (ℕ → List ℕ) → ℕ → ℕ → ℕ
-endIn l logs i k = least (λ p. not (eqb (getD (logs p) (placeOf l i k) 0) 0)) (cycleOf l)
+endIn l logs i k = least (isLogged l logs i k) (cycleOf l)

@@ -16,12 +16,13 @@ use Rattle.basis.specs.Slices.{div-same, div-next, mod-same, mod-next}
 use Rattle.run.specs.declared.Job.{Job}
 use Rattle.run.specs.declared.State.{State}
 use Rattle.run.specs.declared.Next.{Next}
-use Rattle.run.specs.declared.Closed.the-variants.{Accepted, Refused}
+use Rattle.run.specs.declared.Closed.the-variants.{Accepted}
 use Rattle.run.specs.State.{fresh, periodOf, jobOf, offset, place, lastSlice}
 use Rattle.run.specs.Who.{running}
-use Rattle.run.specs.Step.{stepRefusal, afterSlice, jobAfter, stateAfter, logAfter, answerOf, nextState, nextLog, Stepped}
+use Rattle.run.specs.Step.{stepRefusal, afterSlice, jobAfter, stateAfter, logAfter, Stepped}
 use Rattle.run.specs.Sound.{SoundState}
 use Rattle.run.specs.Places.{job-in-cycle}
+use Rattle.promises.specs.Demand1.{step-refused}
 use Rattle.run.specs.Accepted.{StepAccepted, step-accepted, step-answers, who-runs}
 use Rattle.run.specs.StateAfter.{slice-here, slice-elsewhere, job-anew, job-goes-on, HandedOn, handed-on, job-after, state-after-sound}
 use Rattle.run.specs.LogAfter.{byteAfter, log-byte, log-other-job, log-done, log-over, log-late, log-open, log-ended}
@@ -31,6 +32,15 @@ use Rattle.run.specs.LogAfter.{byteAfter, log-byte, log-other-job, log-done, lo
 pub record Calls (s : ℕ → State) (g : ℕ → List ℕ) (tab : ℕ → List ℕ) (clock report : ℕ → ℕ) (r : ℕ → Next) : Type 0 where
   pub stepped : (n : ℕ) → Stepped (s n) (tab n) (clock n) (report n) (g n) (g (suc n)) (r n)
   pub handed : (n : ℕ) → s (suc n) ≡ r n .state
+
+-- Before call n an accepted step, in a slice in which job k of task i ran, brought the report finished.
+pub record Earned (s : ℕ → State) (tab : ℕ → List ℕ) (report : ℕ → ℕ) (r : ℕ → Next) (n i k : ℕ) : Type 0 where
+  pub call : ℕ
+  pub before : call < n
+  pub accepted : r call .answer ≡ Accepted
+  pub ran-here : running (s call) (tab call) ≡ suc i
+  pub that-job : s call .position / periodOf (s call) i ≡ k
+  pub finished : report call ≡ 1
 
 -- the byte of job k of task i
 unfoldable pub byteOf : State → List ℕ → ℕ → ℕ → ℕ
@@ -244,12 +254,6 @@ module _ (s : State) (tab : List ℕ) (clock report : ℕ) (g : List ℕ) (A : S
       (eq-or-ne m (s .position / periodOf s i))
 
 -- ---- any calls
--- A refused step gives back the state that it got and writes nothing.
-step-refused : (s : State) (tab : List ℕ) (clock report : ℕ) (g g′ : List ℕ) (r : Next) (n : ℕ) → stepRefusal s tab clock report g ≡ suc n → Stepped s tab clock report g g′ r
-    → (r .answer ≡ Refused (suc n)) × (r .state ≡ s) × (g′ ≡ g)
-unfolding answerOf nextState nextLog
-step-refused s tab clock report g g′ r n e S = (rw e at (S .answer), rw e at (S .state), rw e at (S .bytes))
-
 module _ (s : ℕ → State) (g : ℕ → List ℕ) (tab : ℕ → List ℕ) (clock report : ℕ → ℕ) (r : ℕ → Next) (C : Calls s g tab clock report r) where
   -- What a call makes of the state and the log: what it got, or what an accepted step gives.
   pub data Made (n : ℕ) : Type 0 where
@@ -267,7 +271,7 @@ module _ (s : ℕ → State) (g : ℕ → List ℕ) (tab : ℕ → List ℕ) (cl
           moved A (a .0) (C .handed n ∙ a .1) (a .2)
       go (suc x) e =
           let a = step-refused (s n) (tab n) (clock n) (report n) (g n) (g (suc n)) (r n) x e (C .stepped n) in
-          same (C .handed n ∙ a .1) (a .2)
+          same (C .handed n ∙ a .state-kept) (a .log-kept)
 
   -- ---- from a start whose log and jobs agree
   module _ (begun : Honest (s 0) (g 0)) where
@@ -295,7 +299,7 @@ module _ (s : ℕ → State) (g : ℕ → List ℕ) (tab : ℕ → List ℕ) (cl
           period-alike = λ i. ap (λ (x : State). periodOf x i) es ∙ kept .period-kept i;
         }
 
-    alike : (n : ℕ) → Alike n
+    pub alike : (n : ℕ) → Alike n
     alike n = alike-by n (made n)
 
     below-before : (n i : ℕ) → i < s (suc n) .count → i < s n .count
@@ -316,19 +320,11 @@ module _ (s : ℕ → State) (g : ℕ → List ℕ) (tab : ℕ → List ℕ) (cl
     pub never-rewritten : (n i k : ℕ) → i < s n .count → k < s n .cycle / periodOf (s n) i → (byteOf (s n) (g n) i k ≡ 0 → ⊥) → byteOf (s (suc n)) (g (suc n)) i k ≡ byteOf (s n) (g n) i k
     never-rewritten n i k li lk nz = stays-by n i k li lk nz (made n)
 
-    -- A byte is 1 only if a call before brought it: an accepted step, in a slice in which that very job ran, with the report finished.
-    pub record Earned (n i k : ℕ) : Type 0 where
-      pub call : ℕ
-      pub before : call < n
-      pub accepted : r call .answer ≡ Accepted
-      pub ran-here : running (s call) (tab call) ≡ suc i
-      pub that-job : s call .position / periodOf (s call) i ≡ k
-      pub finished : report call ≡ 1
-
-    earlier-too : (n i k : ℕ) → Earned n i k → Earned (suc n) i k
+    -- A byte is 1 only if a call before brought it.
+    earlier-too : (n i k : ℕ) → Earned s tab report r n i k → Earned s tab report r (suc n) i k
     earlier-too n i k E = record { call = E .call; before = omega (arith, E .before); accepted = E .accepted; ran-here = E .ran-here; that-job = E .that-job; finished = E .finished }
 
-    earned-by : (n i k : ℕ) → i < s n .count → k < s n .cycle / periodOf (s n) i → (byteOf (s n) (g n) i k ≡ 1 → Earned n i k) → byteOf (s (suc n)) (g (suc n)) i k ≡ 1 → Made n → Earned (suc n) i k
+    earned-by : (n i k : ℕ) → i < s n .count → k < s n .cycle / periodOf (s n) i → (byteOf (s n) (g n) i k ≡ 1 → Earned s tab report r n i k) → byteOf (s (suc n)) (g (suc n)) i k ≡ 1 → Made n → Earned s tab report r (suc n) i k
     earned-by n i k li lk so-far one (same es eg) = earlier-too n i k (so-far (sym (rw (es, eg)) ∙ one))
     earned-by n i k li lk so-far one (moved A a es eg) =
         ⊎-elim
@@ -338,7 +334,7 @@ module _ (s : ℕ → State) (g : ℕ → List ℕ) (tab : ℕ → List ℕ) (cl
         (λ (nz : byteOf (s n) (g n) i k ≡ 0 → ⊥). earlier-too n i k (so-far (sym (never-rewritten n i k li lk nz) ∙ one)))
         (eq-or-ne (byteOf (s n) (g n) i k) 0)
 
-    pub pass-earned : (none-at-start : (i k : ℕ) → i < s 0 .count → k < s 0 .cycle / periodOf (s 0) i → byteOf (s 0) (g 0) i k ≡ 0) (n i k : ℕ) → i < s n .count → k < s n .cycle / periodOf (s n) i → byteOf (s n) (g n) i k ≡ 1 → Earned n i k
+    pub pass-earned : (none-at-start : (i k : ℕ) → i < s 0 .count → k < s 0 .cycle / periodOf (s 0) i → byteOf (s 0) (g 0) i k ≡ 0) (n i k : ℕ) → i < s n .count → k < s n .cycle / periodOf (s n) i → byteOf (s n) (g n) i k ≡ 1 → Earned s tab report r n i k
     pass-earned none zero i k li lk one = absurd (omega (arith, none i k li lk))
     pass-earned none (suc n) i k li lk one =
         earned-by n i k (below-before n i li) (job-before n i k lk) (λ h. pass-earned none n i k (below-before n i li) (job-before n i k lk) h) one (made n)

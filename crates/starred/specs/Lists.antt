@@ -1,12 +1,11 @@
 -- The starred lists, and what the verdict and table building say of each, together in one statement.
 use mathlib.Core.Path.{_≡_}
-use mathlib.Core.List.{List, [], _∷_, _++_}
-use Prim.Native.Nat.{ℕ, _-_}
+use mathlib.Core.List.{List, [], _∷_}
+use Prim.Native.Nat.{ℕ}
 use lib.IntN.{ℤ, pos, subℕ}
-use lib.ListN.{length, replicate}
+use lib.ListN.{replicate}
 use Rattle.tasks.specs.declared.Task.{Task}
-use Rattle.tasks.specs.declared.TaskList.{TaskList}
-use Rattle.tasks.specs.List.{noTask}
+use Rattle.tasks.specs.List.{listOf}
 use Rattle.verdict.specs.Verdict.{verdictOf, Numbers, numbers}
 use Rattle.verdict.specs.Table.{tabled}
 
@@ -14,16 +13,13 @@ use Rattle.verdict.specs.Table.{tabled}
 unfoldable pub task : ℕ → ℕ → Task
 task period runtime = record { period = period; runtime = runtime; memory = 0 }
 
-unfoldable pub listed : List Task → TaskList
-listed ts = record { tasks = ts ++ replicate (16 - length ts) noTask; count = length ts }
-
 -- Refusal number (0: accepted), task, margin, cycle and job count of a list, with a supply of 0.
 unfoldable pub verdict : List Task → Numbers
-verdict ts = numbers (verdictOf (listed ts) 0)
+verdict ts = numbers (verdictOf (listOf ts) 0)
 
 -- What table building leaves in n bytes that all held 255.
 unfoldable pub entries : List Task → ℕ → List ℕ
-entries ts n = tabled (listed ts) (verdictOf (listed ts) 0) (replicate n 255)
+entries ts n = tabled (listOf ts) (verdictOf (listOf ts) 0) (replicate n 255)
 
 unfoldable pub accepted : ℕ → ℤ → ℕ → ℕ → Numbers
 accepted task margin cycle jobs = record { number = 0; task = task; signed = margin; cycle = cycle; jobs = jobs }

@@ -10,7 +10,7 @@ use Rattle.basis.specs.Bytes.{overwrite, overwrite-same}
 use Rattle.plan.specs.Plan.{ranksBefore, firstOf, first}
 use Rattle.tasks.specs.declared.Task.{Task}
 use Rattle.tasks.specs.declared.Bounds.the-variants.{Kept}
-use Rattle.tasks.specs.List.{noTask, taskAt}
+use Rattle.tasks.specs.List.{noTask, taskAt, listOf}
 use Rattle.tasks.specs.Euclid.{euclid, gcdOf, lcmOf}
 use Rattle.tasks.specs.Bounds.{multiple, memorySum, jobSum, cycleOf, jobsOf, refusal, none, _orElse_, firstFound, outside, ofCount, ofNumbers, ofTask, ofMemory, ofCycle, found, answer, boundsOf}
 use Rattle.verdict.specs.declared.Verdict.{Verdict}
@@ -21,28 +21,28 @@ use Rattle.verdict.specs.Table.{tabled}
 use Rattle.verdict.specs.Shapes.{noJob, jobAt, closes, periodIn, openIn, lackIn, scanOf, gotOf, giveOf, turnedOf, turnOf, missedOf, afterOf, closeOf, beginning, simOf, marginIn, tighterBy, tightestBy, tightestOf, judgedBy, verdictBy}
 use Rattle.verdict.specs.Simulation.{entry-is}
 use Rattle.verdict.specs.Judged.{kept-bounded, verdict-is}
-use Rattle.starred.specs.Lists.{task, listed, verdict, entries, accepted, late, A, B, C, D, E, F, G, H, Starred}
+use Rattle.starred.specs.Lists.{task, verdict, entries, accepted, late, A, B, C, D, E, F, G, H, Starred}
 
 -- the verdict by the simulation
 unfoldable verdictOn : List Task → Verdict
-verdictOn ts = verdictBy (listed ts) (boundsOf (listed ts) 0)
+verdictOn ts = verdictBy (listOf ts) (boundsOf (listOf ts) 0)
 
 verdict-on : (ts : List Task) → verdict ts ≡ numbers (verdictOn ts)
 unfolding verdict verdictOn
-verdict-on ts = ap numbers (verdict-is (listed ts) 0)
+verdict-on ts = ap numbers (verdict-is (listOf ts) 0)
 
 -- the entries by the simulation, of a list that keeps all bounds
 unfoldable entriesOn : List Task → ℕ → List ℕ
-entriesOn ts n = overwrite (λ t. simOf (listed ts) (suc t) .entry) n (replicate n 255)
+entriesOn ts n = overwrite (λ t. simOf (listOf ts) (suc t) .entry) n (replicate n 255)
 
-entries-on : (ts : List Task) (n jobs task : ℕ) (margin : ℤ) → boundsOf (listed ts) 0 ≡ Kept n jobs → verdictOn ts ≡ Accepted n jobs task margin → entries ts n ≡ entriesOn ts n
+entries-on : (ts : List Task) (n jobs task : ℕ) (margin : ℤ) → boundsOf (listOf ts) 0 ≡ Kept n jobs → verdictOn ts ≡ Accepted n jobs task margin → entries ts n ≡ entriesOn ts n
 unfolding entries entriesOn verdictOn tabled
 entries-on ts n jobs task margin kept is =
-    ap (λ (v : Verdict). tabled (listed ts) v (replicate n 255)) (verdict-is (listed ts) 0 ∙ is)
-    ∙ overwrite-same _ _ (replicate n 255) n (λ t lt. sym (entry-is (listed ts) (kept-bounded (listed ts) 0 n jobs kept .0) t))
+    ap (λ (v : Verdict). tabled (listOf ts) v (replicate n 255)) (verdict-is (listOf ts) 0 ∙ is)
+    ∙ overwrite-same _ _ (replicate n 255) n (λ t lt. sym (entry-is (listOf ts) (kept-bounded (listOf ts) 0 n jobs kept .0) t))
 
 pub starred : Starred
-unfolding A B C D E F G H task listed accepted late verdictOn entriesOn numbers choose sum overwrite ranksBefore firstOf first noTask taskAt euclid gcdOf lcmOf multiple memorySum jobSum cycleOf jobsOf refusal none _orElse_ firstFound outside ofCount ofNumbers ofTask ofMemory ofCycle found answer boundsOf lateBy earlier noJob jobAt closes periodIn openIn lackIn scanOf gotOf giveOf turnedOf turnOf missedOf afterOf closeOf beginning simOf marginIn tighterBy tightestBy tightestOf judgedBy verdictBy
+unfolding A B C D E F G H task listOf accepted late verdictOn entriesOn numbers choose sum overwrite ranksBefore firstOf first noTask taskAt euclid gcdOf lcmOf multiple memorySum jobSum cycleOf jobsOf refusal none _orElse_ firstFound outside ofCount ofNumbers ofTask ofMemory ofCycle found answer boundsOf lateBy earlier noJob jobAt closes periodIn openIn lackIn scanOf gotOf giveOf turnedOf turnOf missedOf afterOf closeOf beginning simOf marginIn tighterBy tightestBy tightestOf judgedBy verdictBy
 starred = record {
   verdict-A = verdict-on A;
   table-A = entries-on A 12 6 3 (pos 2) refl refl;

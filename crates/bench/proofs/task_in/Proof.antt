@@ -1,0 +1,31 @@
+-- `bench::task_in` meets its contract.
+use Rattle.bench.specs.Drive.{taskIn}
+use borrow.Author.Needs.{needs}
+use Rattle.bench.proofs.task_in.Statement.{statement}
+use Rattle.bench.proofs.task_in.Tie as tie
+
+period-slices-requires : tie.Need-period-slices-requires
+period-slices-requires c κs = search needs
+
+slices-or-zero-requires : tie.Need-slices-or-zero-requires
+slices-or-zero-requires c κs = search needs
+
+runtime-slices-requires : tie.Need-runtime-slices-requires
+runtime-slices-requires c κs = search needs
+
+slices-or-zero-requires-2 : tie.Need-slices-or-zero-requires-2
+slices-or-zero-requires-2 c κs = search needs
+
+returns : tie.Need-returns
+unfolding taskIn
+returns c = cc
+
+pub task-in-spec : {M : Type 1} → statement M
+task-in-spec =
+    tie.close
+    (tie.spec
+    period-slices-requires
+    slices-or-zero-requires
+    runtime-slices-requires
+    slices-or-zero-requires-2
+    returns)

@@ -1,0 +1,84 @@
+// The calibration list: one cycle with no mode named, each job with a need of its own.
+use start::Asked;
+use tasks::Task;
+use tasks::TaskList;
+
+// Microseconds.
+const SLICE: u32 = 500;
+
+// Words of sample memory.
+const SUPPLY: u32 = 65536;
+
+// Positioner, power meter, sweep, link watch, log writer: period and run-time in microseconds, memory in words.
+fn list() -> TaskList {
+    let mut tasks = [Task {
+        period: 0,
+        runtime: 0,
+        memory: 0,
+    }; 16];
+    tasks[0] = bench::task_in(10000, 1900, 128, SLICE);
+    tasks[1] = bench::task_in(7500, 2000, 1024, SLICE);
+    tasks[2] = bench::task_in(30000, 6750, 24576, SLICE);
+    tasks[3] = bench::task_in(6000, 350, 64, SLICE);
+    tasks[4] = bench::task_in(60000, 2700, 4096, SLICE);
+    TaskList { tasks, count: 5 }
+}
+
+fn main() {
+    // In slices; the needs stand as the log does.
+    let needs: [u32; 27] = [
+        // positioner
+        3,
+        3,
+        2,
+        3,
+        7,
+        3,
+        // power meter
+        4,
+        3,
+        3,
+        3,
+        4,
+        3,
+        3,
+        3,
+        // sweep
+        12,
+        16,
+        // link watch
+        1,
+        1,
+        1,
+        1,
+        1,
+        1,
+        1,
+        1,
+        1,
+        1,
+        // log writer
+        5,
+    ];
+    let mut table = [0u8; 4096];
+    let mut log = [0u8; 27];
+    let mut ends = [0u32; 27];
+    let tasks = list();
+    let driven = bench::drive(
+        tasks,
+        SUPPLY,
+        Asked::Unnamed,
+        0,
+        &needs,
+        &mut table,
+        &mut log,
+        &mut ends,
+    );
+    sheet::print(
+        b"calibration: 5 tasks in slices of 500 microseconds\n",
+        tasks,
+        driven,
+        &log,
+        &ends,
+    );
+}

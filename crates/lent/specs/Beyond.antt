@@ -1,0 +1,191 @@
+-- Places beyond the task count do not matter: two lists of one count whose tasks are the same give the same bounds, verdict, table and timings.
+use mathlib.Core.Path.{_≡_, refl, ap, _∙_}
+use mathlib.Core.Bool.{Bool, _&&_, _||_}
+use mathlib.Core.List.{List}
+use mathlib.Core.Logic.{⊎-elim}
+use Prim.Native.Nat.{ℕ, zero, suc, _+_, _-_, _/_, _%_, _≤_, _<_}
+use native.Mathlib.Omega.{arith}
+use lib.Dec.{leb, ltb, eqb}
+use lib.IntN.{pos, subℕ}
+use lib.ListN.{replicate}
+use Rattle.basis.specs.Bytes.{overwrite, overwrite-same}
+use Rattle.basis.specs.Choose.{choose, choose-either}
+use Rattle.basis.specs.Least.{least}
+use Rattle.basis.specs.Sum.{sum-ext}
+use Rattle.plan.specs.Plan.{Plan, job, age, keyIn, wants, pick, gets, had, entry, table, given, first, ranksBefore, IsFirst, NoneWants, FirstTask}
+use Rattle.plan.specs.Rank.{first-law, first-ext}
+use Rattle.tasks.specs.declared.Task.{Task}
+use Rattle.tasks.specs.declared.TaskList.{TaskList}
+use Rattle.tasks.specs.declared.Finding.{Finding}
+use Rattle.tasks.specs.declared.Bounds.{Bounds}
+use Rattle.tasks.specs.declared.Bounds.the-variants.{Kept, Broken}
+use Rattle.tasks.specs.List.{taskAt, planOf}
+use Rattle.tasks.specs.Euclid.{lcmOf}
+use Rattle.tasks.specs.Bounds.{multiple, memorySum, jobSum, cycleOf, jobsOf, refusal, none, _orElse_, firstFound, ofCount, ofNumbers, ofTask, ofMemory, ofCycle, found, answer, boundsOf}
+use Rattle.tasks.specs.Kept.{kept-tells}
+use Rattle.verdict.specs.declared.Late.{Late}
+use Rattle.verdict.specs.declared.Verdict.the-variants.{Accepted, Refused}
+use Rattle.verdict.specs.Lateness.{received, missing, missedAt, lateBy, earlier, lateness}
+use Rattle.verdict.specs.Margin.{firstEnd, margin, tighter, tightest}
+use Rattle.verdict.specs.Verdict.{judged, verdictFrom, verdictOf}
+use Rattle.start.specs.Start.{timingOf, timings}
+use Rattle.run.specs.State.{noTiming}
+
+-- ---- what is found is below the count
+first-most : (key wants : ℕ → ℕ) (n : ℕ) → first key wants n ≤ n
+unfolding IsFirst
+first-most key wants n =
+    ⊎-elim
+    (λ (h : NoneWants wants n (first key wants n)). omega (arith, h .idle))
+    (λ (h : FirstTask key wants n (first key wants n)). omega (arith, h .is, h .below))
+    (first-law key wants n)
+
+tightest-below : (P : Plan) (n : ℕ) → 0 < n → tightest P n < n
+unfolding tightest
+tightest-below P zero p = absurd (omega arith)
+tightest-below P (suc zero) p = choose-either (λ (x : ℕ). x < 1) _ 0 0 p p
+tightest-below P (suc (suc n)) p =
+    choose-either (λ (x : ℕ). x < suc (suc n)) _ (suc n) (tightest P (suc n)) (omega arith) (omega (arith, tightest-below P (suc n) (omega arith)))
+
+first-found-same : (f g : ℕ → Finding) (n : ℕ) → ((i : ℕ) → i < n → f i ≡ g i) → firstFound f n ≡ firstFound g n
+unfolding firstFound
+first-found-same f g zero h = refl
+first-found-same f g (suc n) h = λ j. first-found-same f g n (λ i l. h i (omega arith)) j orElse h n (omega arith) j
+
+module _ (ts us : List Task) (n : ℕ) (same : (i : ℕ) → i < n → taskAt ts i ≡ taskAt us i) where
+  abbrev l : TaskList
+  l = record { tasks = ts; count = n }
+
+  abbrev m : TaskList
+  m = record { tasks = us; count = n }
+
+  abbrev P : Plan
+  P = planOf l
+
+  abbrev Q : Plan
+  Q = planOf m
+
+  -- ---- the slice rule
+  key-same : (t i : ℕ) → i < n → keyIn P t i ≡ keyIn Q t i
+  unfolding keyIn planOf
+  key-same t i li = λ j. same i li j .period
+
+  wants-same : (t : ℕ) (h k : ℕ → ℕ) (i : ℕ) → i < n → h i ≡ k i → wants P (P .runtime) t h i ≡ wants Q (Q .runtime) t k i
+  unfolding wants age job planOf
+  wants-same t h k i li e = λ j. choose (ltb (t % same i li j .period) (same i li j .period)) (same i li j .runtime - e j) 0
+
+  pick-same : (t : ℕ) (h k : ℕ → ℕ) → ((i : ℕ) → i < n → h i ≡ k i) → pick P (P .runtime) t h ≡ pick Q (Q .runtime) t k
+  unfolding pick planOf
+  pick-same t h k e = first-ext (keyIn P t) (keyIn Q t) (wants P (P .runtime) t h) (wants Q (Q .runtime) t k) n (key-same t) (λ i li. wants-same t h k i li (e i li))
+
+  had-same : (t i : ℕ) → i < n → had P (P .runtime) t i ≡ had Q (Q .runtime) t i
+  unfolding had age planOf
+  had-same zero i li = refl
+  had-same (suc t) i li = λ j. choose (eqb (suc t % same i li j .period) 0) 0 (had-same t i li j + gets (pick-same t (had P (P .runtime) t) (had Q (Q .runtime) t) (had-same t) j) i)
+
+  entry-same : (t : ℕ) → entry P (P .runtime) t ≡ entry Q (Q .runtime) t
+  unfolding entry
+  entry-same t = pick-same t (had P (P .runtime) t) (had Q (Q .runtime) t) (had-same t)
+
+  table-same : (t : ℕ) → table P t ≡ table Q t
+  unfolding table
+  table-same = entry-same
+
+  -- ---- lateness
+  missing-same : (t i : ℕ) → i < n → missing P t i ≡ missing Q t i
+  unfolding missing received age job planOf
+  missing-same t i li = λ j. choose (eqb (suc (t % same i li j .period)) (same i li j .period)) (same i li j .runtime - (had-same t i li j + gets (table-same t j) i)) 0
+
+  missed-same : (t : ℕ) → missedAt P t ≡ missedAt Q t
+  unfolding missedAt planOf
+  missed-same t = first-ext (keyIn P t) (keyIn Q t) (missing P t) (missing Q t) n (key-same t) (missing-same t)
+
+  missed-most : (t : ℕ) → missedAt P t ≤ n
+  unfolding missedAt planOf
+  missed-most t = first-most (keyIn P t) (missing P t) n
+
+  late-same : (t e : ℕ) → e ≤ n → lateBy (missing P t) e ≡ lateBy (missing Q t) e
+  unfolding lateBy
+  late-same t zero h = refl
+  late-same t (suc i) h = λ j. record { task = suc i; short = missing-same t i h j }
+
+  lateness-same : (t : ℕ) → lateness P t ≡ lateness Q t
+  unfolding lateness
+  lateness-same zero = refl
+  lateness-same (suc t) = λ j. earlier (lateness-same t j) ((late-same t (missedAt P t) (missed-most t) ∙ ap (lateBy (missing Q t)) (missed-same t)) j)
+
+  -- ---- margins
+  given-same : (i s k : ℕ) → given P (P .runtime) i s k ≡ given Q (Q .runtime) i s k
+  unfolding given
+  given-same i s k = sum-ext _ _ k (λ x _. ap (λ (e : ℕ). gets e i) (entry-same (s + x)))
+
+  margin-same : (i : ℕ) → i < n → margin P i ≡ margin Q i
+  unfolding margin firstEnd planOf
+  margin-same i li = λ j. same i li j .period - least (λ t. leb (same i li j .runtime) (given-same i 0 t j)) (same i li j .period)
+
+  tighter-same : (i k : ℕ) → i < n → k < n → tighter P i k ≡ tighter Q i k
+  unfolding tighter ranksBefore
+  tighter-same i k li lk = λ j.
+      ltb (margin-same i li j) (margin-same k lk j)
+      || (eqb (margin-same i li j) (margin-same k lk j) && (ltb (key-same 0 i li j) (key-same 0 k lk j) || (eqb (key-same 0 i li j) (key-same 0 k lk j) && ltb i k)))
+
+  tightest-same : (k : ℕ) → k ≤ n → tightest P k ≡ tightest Q k
+  unfolding tightest
+  tightest-same zero h = refl
+  tightest-same (suc zero) h = refl
+  tightest-same (suc (suc k)) h =
+      ap (λ (b : Bool). choose (eqb (suc k) 0 || b) (suc k) (tightest P (suc k))) (tighter-same (suc k) (tightest P (suc k)) h (omega (arith, tightest-below P (suc k) (omega arith))))
+      ∙ ap (λ (x : ℕ). choose (eqb (suc k) 0 || tighter Q (suc k) x) (suc k) x) (tightest-same (suc k) (omega arith))
+
+  -- ---- bounds
+  memory-same : (k : ℕ) → k ≤ n → memorySum ts k ≡ memorySum us k
+  unfolding memorySum
+  memory-same k h = sum-ext _ _ k (λ i li. ap (λ (t : Task). t .memory) (same i (omega arith)))
+
+  multiple-same : (k : ℕ) → k ≤ n → multiple ts k ≡ multiple us k
+  unfolding multiple
+  multiple-same zero h = refl
+  multiple-same (suc k) h = λ j. lcmOf (multiple-same k (omega arith) j) (same k h j .period)
+
+  jobs-same : (c : ℕ) → jobSum ts c n ≡ jobSum us c n
+  unfolding jobSum
+  jobs-same c = sum-ext _ _ n (λ i li. ap (λ (t : Task). c / t .period) (same i li))
+
+  found-same : (supply : ℕ) → found l supply ≡ found m supply
+  unfolding found ofTask ofMemory ofCycle
+  found-same supply = λ j.
+      ofCount n
+      orElse first-found-same (ofTask ts) (ofTask us) n (λ i li k. ofNumbers (same i li k .period) (same i li k .runtime) (suc i)) j
+      orElse first-found-same (ofMemory ts supply) (ofMemory us supply) n (λ i li k. choose (ltb supply (memory-same (suc i) li k)) (refusal 5 (suc i)) none) j
+      orElse first-found-same (ofCycle ts) (ofCycle us) n (λ i li k. choose (ltb 4096 (multiple-same (suc i) li k)) (refusal 6 (suc i)) none) j
+
+  bounds-same : (supply : ℕ) → boundsOf l supply ≡ boundsOf m supply
+  unfolding boundsOf jobsOf cycleOf
+  bounds-same supply =
+      let cycle : multiple ts n ≡ multiple us n = multiple-same n (omega arith) in
+      λ j. answer (found-same supply j) (cycle j) ((ap (λ (c : ℕ). jobSum ts c n) cycle ∙ jobs-same (multiple us n)) j)
+
+  -- ---- the answers
+  judged-same : 0 < n → (cycle jobs : ℕ) (late : Late) → judged P cycle jobs late ≡ judged Q cycle jobs late
+  unfolding judged planOf
+  judged-same p cycle jobs late =
+      let best : tightest P n ≡ tightest Q n = tightest-same n (omega arith) in
+      let least-margin : margin P (tightest P n) ≡ margin Q (tightest Q n) = margin-same (tightest P n) (tightest-below P n p) ∙ ap (margin Q) best in
+      λ j. choose (eqb (late .task) 0) (Accepted cycle jobs (suc (best j)) (pos (least-margin j))) (Refused 7 (late .task) (subℕ 0 (late .short)))
+
+  from-same : (supply : ℕ) (b : Bounds) → boundsOf l supply ≡ b → verdictFrom l b ≡ verdictFrom m b
+  unfolding verdictFrom
+  from-same supply (Broken number task) e = refl
+  from-same supply (Kept cycle jobs) e =
+      judged-same (kept-tells l supply cycle jobs e .keeps .some) cycle jobs (lateness P cycle) ∙ ap (judged Q cycle jobs) (lateness-same cycle)
+
+  pub verdict-same : (supply : ℕ) → verdictOf l supply ≡ verdictOf m supply
+  unfolding verdictOf
+  verdict-same supply = from-same supply (boundsOf l supply) refl ∙ ap (verdictFrom m) (bounds-same supply)
+
+  pub entries-same : (cycle : ℕ) (old : List ℕ) → overwrite (table P) cycle old ≡ overwrite (table Q) cycle old
+  entries-same cycle old = overwrite-same (table P) (table Q) old cycle (λ t _. table-same t)
+
+  pub timings-same : timings l ≡ timings m
+  unfolding timings
+  timings-same = overwrite-same _ _ (replicate 16 noTiming) n (λ i li. ap timingOf (same i li))

@@ -1,0 +1,4 @@
+-- What the lent form of a list comes to.
+pub mod Shapes
+pub mod Beyond
+pub mod Lent

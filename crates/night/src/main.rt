@@ -1,0 +1,88 @@
+// The night list: one cycle with no mode named, each job with a need of its own.
+use start::Asked;
+use tasks::Task;
+use tasks::TaskList;
+
+// Microseconds.
+const SLICE: u32 = 500;
+
+// Words of sample memory.
+const SUPPLY: u32 = 65536;
+
+// Positioner, power meter, sweep, link watch, log writer: period and run-time in microseconds, memory in words.
+fn list() -> TaskList {
+    let mut tasks = [Task {
+        period: 0,
+        runtime: 0,
+        memory: 0,
+    }; 16];
+    tasks[0] = bench::task_in(20000, 2800, 128, SLICE);
+    tasks[1] = bench::task_in(10000, 2000, 1024, SLICE);
+    tasks[2] = bench::task_in(40000, 11900, 16384, SLICE);
+    tasks[3] = bench::task_in(5000, 350, 64, SLICE);
+    tasks[4] = bench::task_in(80000, 5800, 8192, SLICE);
+    TaskList { tasks, count: 5 }
+}
+
+fn main() {
+    // In slices; the needs stand as the log does.
+    let needs: [u32; 31] = [
+        // positioner
+        5,
+        4,
+        4,
+        3,
+        // power meter
+        3,
+        3,
+        3,
+        3,
+        3,
+        6,
+        3,
+        3,
+        // sweep
+        22,
+        27,
+        // link watch
+        1,
+        1,
+        1,
+        1,
+        1,
+        1,
+        1,
+        1,
+        1,
+        1,
+        1,
+        1,
+        1,
+        1,
+        1,
+        1,
+        // log writer
+        9,
+    ];
+    let mut table = [0u8; 4096];
+    let mut log = [0u8; 31];
+    let mut ends = [0u32; 31];
+    let tasks = list();
+    let driven = bench::drive(
+        tasks,
+        SUPPLY,
+        Asked::Unnamed,
+        0,
+        &needs,
+        &mut table,
+        &mut log,
+        &mut ends,
+    );
+    sheet::print(
+        b"night: 5 tasks in slices of 500 microseconds\n",
+        tasks,
+        driven,
+        &log,
+        &ends,
+    );
+}

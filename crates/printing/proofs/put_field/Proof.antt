@@ -1,0 +1,24 @@
+-- `printing::put_field` meets its contract.
+use borrow.Author.Needs.{needs}
+use Rattle.printing.specs.Text.{ascii, field}
+use Rattle.printing.proofs.Chain.{chain, room-first, room-next}
+use Rattle.printing.proofs.put_field.Statement.{statement}
+use Rattle.printing.proofs.put_field.Tie as tie
+
+put-decimal-requires : tie.Need-put-decimal-requires
+unfolding field
+put-decimal-requires c κs = room-first _ _ (c .before .before .pre)
+
+put-requires : tie.Need-put-requires
+unfolding field ascii
+put-requires c κs = room-next _ _ (c .before .before .before .before .before .before .pre) (c .before .before .before .put-decimal .ensures)
+
+same-length : tie.Need-same-length
+same-length c = search needs
+
+returns : tie.Need-returns
+unfolding field ascii
+returns c = chain (c .before .before .before .before .before .before .put-decimal .ensures) (c .before .before .put .ensures)
+
+pub put-field-spec : {M : Type 1} → statement M
+put-field-spec = tie.close (tie.spec put-decimal-requires put-requires same-length returns)

@@ -1,0 +1,78 @@
+-- How long the texts are, so how much room they ask for.
+use mathlib.Core.Path.{_≡_}
+use mathlib.Core.List.{List, _++_}
+use Prim.Native.Nat.{ℕ, zero, suc, _+_, _*_, _^_, _≤_, _<_}
+use native.Mathlib.Omega.{arith}
+use lib.IntN.{ℤ, pos, negsuc, natAbs}
+use lib.ListN.{length, getD, length-append}
+use Rattle.printing.specs.Text.{ascii, decimal, sign, signedDecimal, field, crlf, refusalHeader, refusalRecord, refusalText, tableHeader, sliceRecord, recordsTo, tableText}
+use Rattle.printing.specs.Decimal.{decimal-length}
+
+field-length : (k n : ℕ) → n < 10 ^ suc k → length (field n) ≤ suc k + 1
+unfolding field ascii
+field-length k n l = omega (arith, length-append (decimal n) (ascii ","), decimal-length k n l)
+
+-- ---- a refusal
+sign-length : (z : ℤ) → length (sign z) ≤ 1
+unfolding sign ascii
+sign-length (pos n) = omega arith
+sign-length (negsuc n) = omega arith
+
+signed-length : (k : ℕ) (z : ℤ) → natAbs z < 10 ^ suc k → length (signedDecimal z) ≤ 1 + suc k
+unfolding signedDecimal
+signed-length k z l = omega (arith, length-append (sign z) (decimal (natAbs z)), sign-length z, decimal-length k (natAbs z) l)
+
+-- A number of 10 digits, a task of 20, a margin of 10 with its sign, two commas and CRLF.
+pub refusal-length : (number task : ℕ) (margin : ℤ) → number < 2 ^ 32 → task < 2 ^ 64 → natAbs margin ≤ 2 ^ 31 → length (refusalRecord number task margin) ≤ 45
+unfolding refusalRecord crlf ascii
+refusal-length number task margin ln lt lm =
+    omega (
+      arith,
+      length-append (field number ++ field task ++ signedDecimal margin) crlf,
+      length-append (field number ++ field task) (signedDecimal margin),
+      length-append (field number) (field task),
+      field-length 9 number (omega arith),
+      field-length 19 task (omega arith),
+      signed-length 9 margin (omega arith),
+    )
+
+-- So 66 bytes are room for every refusal.
+pub refusal-fits : (number task : ℕ) (margin : ℤ) → number < 2 ^ 32 → task < 2 ^ 64 → natAbs margin ≤ 2 ^ 31 → length (refusalText number task margin) ≤ 66
+unfolding refusalText refusalHeader crlf ascii
+refusal-fits number task margin ln lt lm =
+    omega (arith, length-append refusalHeader (refusalRecord number task margin), refusal-length number task margin ln lt lm)
+
+-- ---- a table
+-- A slice number of so many digits, an entry of 3, a comma and CRLF.
+pub slice-length : (k t entry : ℕ) → t < 10 ^ suc k → entry < 256 → length (sliceRecord t entry) ≤ suc k + 6
+unfolding sliceRecord crlf ascii
+slice-length k t entry lt le =
+    omega (
+      arith,
+      length-append (field t ++ decimal entry) crlf,
+      length-append (field t) (decimal entry),
+      field-length k t lt,
+      decimal-length 2 entry (omega arith),
+    )
+
+module _ (table : List ℕ) where
+  pub records-next : (t : ℕ) → length (recordsTo table (suc t)) ≡ length (recordsTo table t) + length (sliceRecord t (getD table t 0))
+  unfolding recordsTo
+  records-next t = length-append (recordsTo table t) (sliceRecord t (getD table t 0))
+
+  -- Records of at most so many bytes each.
+  pub records-length : (most n : ℕ) → ((t : ℕ) → t < n → length (sliceRecord t (getD table t 0)) ≤ most) → length (recordsTo table n) ≤ n * most
+  unfolding recordsTo
+  records-length most zero each = omega arith
+  records-length most (suc t) each =
+      omega (arith, records-next t, records-length most t (λ i l. each i (omega arith)), each t (omega arith))
+
+  -- 40,972 bytes are room for every table of a cycle.
+  pub table-fits : length table ≤ 4096 → ((i : ℕ) → i < length table → getD table i 0 < 256) → length (tableText table) ≤ 40972
+  unfolding tableText tableHeader crlf ascii
+  table-fits few bytes =
+      omega (
+        arith,
+        length-append tableHeader (recordsTo table (length table)),
+        records-length 10 (length table) (λ t l. slice-length 3 t (getD table t 0) (omega arith) (bytes t l)),
+      )

@@ -1,0 +1,72 @@
+-- The texts that the program prints, as lists of bytes: records by RFC 4180, each closed by CRLF.
+use mathlib.Core.List.{List, [], _∷_, _++_}
+use Prim.Native.Nat.{ℕ, zero, suc, _+_, _/_, _%_}
+use lib.Dec.{ltb}
+use lib.IntN.{ℤ, pos, negsuc, natAbs}
+use lib.ListN.{length, getD}
+use Prim.Native.Char.{code}
+use Prim.Native.String.{String, [] as end, _∷_ as _then_}
+use Rattle.basis.specs.Choose.{choose}
+
+-- The bytes of a text whose characters are all below 128.
+unfoldable pub ascii : String → List ℕ
+ascii end = []
+ascii (c then s) = code c ∷ ascii s
+
+-- ---- fields
+-- "0" to "9"
+unfoldable pub digit : ℕ → ℕ
+digit d = 48 + d
+
+-- The digits of n, most significant first, in at most so many turns.
+unfoldable pub digitsIn : ℕ → ℕ → List ℕ
+digitsIn zero n = []
+digitsIn (suc turns) n = choose (ltb n 10) (digit n ∷ []) (digitsIn turns (n / 10) ++ (digit (n % 10) ∷ []))
+
+-- A number in decimal. No number has more digits than one more than itself, so the turns are enough.
+unfoldable pub decimal : ℕ → List ℕ
+decimal n = digitsIn (suc n) n
+
+-- "-" exactly below zero
+unfoldable pub sign : ℤ → List ℕ
+sign (pos n) = []
+sign (negsuc n) = ascii "-"
+
+unfoldable pub signedDecimal : ℤ → List ℕ
+signedDecimal z = sign z ++ decimal (natAbs z)
+
+-- a field that another one follows
+unfoldable pub field : ℕ → List ℕ
+field n = decimal n ++ ascii ","
+
+unfoldable pub crlf : List ℕ
+crlf = ascii "\r\n"
+
+-- ---- a refusal
+unfoldable pub refusalHeader : List ℕ
+refusalHeader = ascii "refusal,task,margin" ++ crlf
+
+-- the refusal's number, the task that it names, the margin
+unfoldable pub refusalRecord : ℕ → ℕ → ℤ → List ℕ
+refusalRecord number task margin = field number ++ field task ++ signedDecimal margin ++ crlf
+
+-- The header and one record.
+unfoldable pub refusalText : ℕ → ℕ → ℤ → List ℕ
+refusalText number task margin = refusalHeader ++ refusalRecord number task margin
+
+-- ---- a table
+unfoldable pub tableHeader : List ℕ
+tableHeader = ascii "slice,task" ++ crlf
+
+-- a slice's number, then its entry
+unfoldable pub sliceRecord : ℕ → ℕ → List ℕ
+sliceRecord t entry = field t ++ decimal entry ++ crlf
+
+-- the records of the slices before slice n
+unfoldable pub recordsTo : List ℕ → ℕ → List ℕ
+recordsTo table zero = []
+recordsTo table (suc t) = recordsTo table t ++ sliceRecord t (getD table t 0)
+
+-- The header and a record for each slice.
+unfoldable pub tableText : List ℕ → List ℕ
+tableText table = tableHeader ++ recordsTo table (length table)

@@ -1,0 +1,140 @@
+// Records by RFC 4180 into a lent buffer: a refusal, and a table.
+ghost use mathlib.Core.List.{[], _∷_};
+ghost use lib.ListN.{length, take};
+ghost use lib.IntN.{natAbs};
+ghost use mathlib.Core.Path.{_≡_};
+ghost use Prim.Native.Nat.{_≤_};
+ghost use Rattle.printing.specs.Text.{decimal, field, sign, signedDecimal, refusalRecord, refusalText, sliceRecord, recordsTo, tableText};
+ghost use Rattle.printing.specs.Written.{Written};
+ghost use Rattle.printing.specs.Shapes.{Room, Put};
+
+// One byte, where there is room for it. All texts are chains of these.
+fn put(byte: u8, out: &mut [u8], at: usize) -> usize
+    requires { ⌜ Room (byte ∷ []) at ⌝ }
+    ensures { λ r. ⌜ Put (byte ∷ []) at (now (out .entry)) (now (out .exit)) r ⌝ }
+{
+    let next = at + 1;
+    if at < out.len() {
+        out[at] = byte;
+    }
+    next
+}
+
+fn put_text(text: &[u8], out: &mut [u8], at: usize) -> usize
+    requires { ⌜ Room (now text) at ⌝ }
+    ensures { λ r. ⌜ Put (now (text .entry)) at (now (out .entry)) (now (out .exit)) r ⌝ }
+{
+    let mut next = at;
+    let mut i = 0;
+    while i < text.len() {
+        let after = put(text[i], out, next);
+        next = after;
+        i += 1;
+    }
+    next
+}
+
+fn put_decimal(n: u64, out: &mut [u8], at: usize) -> usize
+    requires { ⌜ Room (decimal n) at ⌝ }
+    ensures { λ r. ⌜ Put (decimal n) at (now (out .entry)) (now (out .exit)) r ⌝ }
+{
+    if n < 10 {
+        put(48 + n as u8, out, at)
+    } else {
+        let next = put_decimal(n / 10, out, at);
+        put(48 + (n % 10) as u8, out, next)
+    }
+}
+
+fn put_sign(z: i32, out: &mut [u8], at: usize) -> usize
+    requires { ⌜ Room (sign z) at ⌝ }
+    ensures { λ r. ⌜ Put (sign z) at (now (out .entry)) (now (out .exit)) r ⌝ }
+{
+    if z < 0 { put(b'-', out, at) } else { at }
+}
+
+// In 64 bits, where the least number of 32 bits has a magnitude too.
+fn magnitude(z: i32) -> u64
+    ensures { λ r. ⌜ r ≡ natAbs z ⌝ }
+{
+    if z < 0 {
+        (0 - z as i64) as u64
+    } else {
+        z as u64
+    }
+}
+
+fn put_signed(z: i32, out: &mut [u8], at: usize) -> usize
+    requires { ⌜ Room (signedDecimal z) at ⌝ }
+    ensures { λ r. ⌜ Put (signedDecimal z) at (now (out .entry)) (now (out .exit)) r ⌝ }
+{
+    let next = put_sign(z, out, at);
+    put_decimal(magnitude(z), out, next)
+}
+
+// A field that another one follows.
+fn put_field(n: u64, out: &mut [u8], at: usize) -> usize
+    requires { ⌜ Room (field n) at ⌝ }
+    ensures { λ r. ⌜ Put (field n) at (now (out .entry)) (now (out .exit)) r ⌝ }
+{
+    let next = put_decimal(n, out, at);
+    put(b',', out, next)
+}
+
+fn put_refusal(number: u32, task: usize, margin: i32, out: &mut [u8], at: usize) -> usize
+    requires { ⌜ Room (refusalRecord number task margin) at ⌝ }
+    ensures { λ r. ⌜ Put (refusalRecord number task margin) at (now (out .entry)) (now (out .exit)) r ⌝ }
+{
+    let second = put_field(number as u64, out, at);
+    let third = put_field(task as u64, out, second);
+    let end = put_signed(margin, out, third);
+    put_text(b"\r\n", out, end)
+}
+
+fn put_slice(t: usize, entry: u8, out: &mut [u8], at: usize) -> usize
+    requires { ⌜ Room (sliceRecord t entry) at ⌝ }
+    ensures { λ r. ⌜ Put (sliceRecord t entry) at (now (out .entry)) (now (out .exit)) r ⌝ }
+{
+    let second = put_field(t as u64, out, at);
+    let end = put_decimal(entry as u64, out, second);
+    put_text(b"\r\n", out, end)
+}
+
+// A record for each slice of a table, numbered from 0.
+fn put_slices(table: &[u8], out: &mut [u8], at: usize) -> usize
+    requires { ⌜ Room (recordsTo (now table) (length (now table))) at ⌝ }
+    ensures { λ r. ⌜ Put (recordsTo (now (table .entry)) (length (now (table .entry)))) at (now (out .entry)) (now (out .exit)) r ⌝ }
+{
+    let mut next = at;
+    let mut t = 0;
+    while t < table.len() {
+        let after = put_slice(t, table[t], out, next);
+        next = after;
+        t += 1;
+    }
+    next
+}
+
+// A refusal, as much of it as there is room for: the header, and one record. Answers the length of the whole text.
+pub fn write_refusal(number: u32, task: usize, margin: i32, out: &mut [u8]) -> usize
+    ensures { λ r. ⌜ Written (refusalText number task margin) (now (out .entry)) (now (out .exit)) r ⌝ }
+    ensures { λ r. ⌜ r ≤ 66 ⌝ }
+{
+    let next = put_text(b"refusal,task,margin\r\n", out, 0);
+    put_refusal(number, task, margin, out, next)
+}
+
+// A table, as much of it as there is room for: the header, and a record for each slice of the cycle, as far as the table
+// reaches. Answers the length of the whole text.
+pub fn write_table(table: &[u8], cycle: u32, out: &mut [u8]) -> usize
+    ensures { λ r. ⌜ Written (tableText (take cycle (now (table .entry)))) (now (out .entry)) (now (out .exit)) r ⌝ }
+    ensures { λ r. ⌜ (cycle ≤ 4096 → r ≤ 40972) ⌝ }
+{
+    let next = put_text(b"slice,task\r\n", out, 0);
+    let count = cycle as usize;
+    if count < table.len() {
+        put_slices(&table[..count], out, next)
+    } else {
+        put_slices(table, out, next)
+    }
+}

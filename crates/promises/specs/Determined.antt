@@ -1,0 +1,136 @@
+-- Each public contract determines the answer and every lent byte afterwards: any two answers that keep it are equal. Each theorem
+-- names the function whose contract it repeats. The functions over a lent run of records and their likes for a list by value keep
+-- the contract of the function they go to, with the list of the records, so its theorem is theirs.
+use mathlib.Core.Path.{_≡_, sym, ap, ap₂, _∙_}
+use mathlib.Core.List.{List}
+use Prim.Native.Nat.{ℕ}
+use lib.IntN.{ℤ}
+use lib.ListN.{take}
+use Rattle.tasks.specs.declared.TaskList.{TaskList}
+use Rattle.tasks.specs.declared.Bounds.{Bounds}
+use Rattle.tasks.specs.Bounds.{boundsOf}
+use Rattle.verdict.specs.declared.Verdict.{Verdict}
+use Rattle.verdict.specs.Verdict.{verdictOf}
+use Rattle.verdict.specs.Table.{tabled, Built}
+use Rattle.start.specs.declared.Asked.{Asked}
+use Rattle.start.specs.declared.Begun.{Begun}
+use Rattle.start.specs.declared.Started.{Started}
+use Rattle.start.specs.Start.{Begins}
+use Rattle.run.specs.declared.State.{State}
+use Rattle.run.specs.declared.Runner.{Runner}
+use Rattle.run.specs.declared.Closed.{Closed}
+use Rattle.run.specs.declared.Next.{Next}
+use Rattle.run.specs.Who.{whoOf}
+use Rattle.run.specs.Step.{Stepped}
+use Rattle.readings.specs.declared.Entry.{Entry}
+use Rattle.readings.specs.declared.Refusal.{Refusal}
+use Rattle.readings.specs.declared.Logged.{Logged}
+use Rattle.readings.specs.Reading.{entryOf, refusalOf, loggedOf}
+use Rattle.units.specs.declared.Slices.{Slices}
+use Rattle.units.specs.Conversion.{paper, runtimeOf, periodOf}
+use Rattle.units.specs.Laws.{paper-tells}
+use Rattle.records.specs.declared.Parsed.{Parsed}
+use Rattle.records.specs.Grammar.{Reads}
+use Rattle.records.specs.Grammar.{paper as readPaper}
+use Rattle.records.specs.Reading.{reads-one}
+use Rattle.printing.specs.Text.{refusalText, tableText}
+use Rattle.printing.specs.Written.{Written, written-one}
+use Rattle.tasks.specs.declared.Task.{Task}
+use Rattle.bench.specs.declared.Driven.{Driven}
+use Rattle.bench.specs.Course.{Course, SliceClosed, courseAt}
+use Rattle.bench.specs.Drive.{taskIn, begun, Drives}
+
+-- what equals one thing is one thing
+same : {A : Type 0} {x r r′ : A} → r ≡ x → r′ ≡ x → r ≡ r′
+same e e′ = e ∙ sym e′
+
+-- tasks: check_bounds
+pub check-bounds : (l : TaskList) (supply : ℕ) (r r′ : Bounds) → r ≡ boundsOf l supply → r′ ≡ boundsOf l supply → r ≡ r′
+check-bounds l supply r r′ e e′ = same e e′
+
+-- verdict: judge; lent: judge_lent, judge_list
+pub judge : (l : TaskList) (supply : ℕ) (r r′ : Verdict) → r ≡ verdictOf l supply → r′ ≡ verdictOf l supply → r ≡ r′
+judge l supply r r′ e e′ = same e e′
+
+-- verdict: build, with the table; lent: build_lent, build_list
+pub build : (l : TaskList) (supply : ℕ) (old new new′ : List ℕ) (r r′ : Verdict) → Built l supply old new r → Built l supply old new′ r′ → (r ≡ r′) × (new ≡ new′)
+build l supply old new new′ r r′ B B′ =
+    (same (B .answer) (B′ .answer), B .bytes ∙ ap (λ (v : Verdict). tabled l v old) (same (B .answer) (B′ .answer)) ∙ sym (B′ .bytes))
+
+-- start: start, with the log; lent: start_lent, start_list
+pub start : (l : TaskList) (supply : ℕ) (asked : Asked) (clock : ℕ) (log new new′ : List ℕ) (r r′ : Started)
+    → Begins l supply asked clock log new r → Begins l supply asked clock log new′ r′ → (r ≡ r′) × (new ≡ new′)
+start l supply asked clock log new new′ r r′ B B′ =
+    (ap₂ (λ (a : Begun) (s : State). record { answer = a; state = s }) (same (B .answer) (B′ .answer)) (same (B .state) (B′ .state)), same (B .bytes) (B′ .bytes))
+
+-- run: who
+pub who : (s : State) (table : List ℕ) (r r′ : Runner) → r ≡ whoOf s table → r′ ≡ whoOf s table → r ≡ r′
+who s table r r′ e e′ = same e e′
+
+-- run: step, with the log
+pub step : (s : State) (table : List ℕ) (clock report : ℕ) (log new new′ : List ℕ) (r r′ : Next)
+    → Stepped s table clock report log new r → Stepped s table clock report log new′ r′ → (r ≡ r′) × (new ≡ new′)
+step s table clock report log new new′ r r′ S S′ =
+    (ap₂ (λ (a : Closed) (x : State). record { answer = a; state = x }) (same (S .answer) (S′ .answer)) (same (S .state) (S′ .state)), same (S .bytes) (S′ .bytes))
+
+-- readings: read_entry, read_refusal, read_logged
+pub read-entry : (byte count : ℕ) (r r′ : Entry) → r ≡ entryOf byte count → r′ ≡ entryOf byte count → r ≡ r′
+read-entry byte count r r′ e e′ = same e e′
+
+pub read-refusal : (number : ℕ) (r r′ : Refusal) → r ≡ refusalOf number → r′ ≡ refusalOf number → r ≡ r′
+read-refusal number r r′ e e′ = same e e′
+
+pub read-logged : (byte : ℕ) (r r′ : Logged) → r ≡ loggedOf byte → r′ ≡ loggedOf byte → r ≡ r′
+read-logged byte r r′ e e′ = same e e′
+
+-- units: runtime_slices, period_slices
+pub runtime-slices : (micros slice : ℕ) (r r′ : Slices) → paper r ≡ runtimeOf micros slice → paper r′ ≡ runtimeOf micros slice → r ≡ r′
+runtime-slices micros slice r r′ e e′ = paper-tells r r′ (same e e′)
+
+pub period-slices : (micros slice : ℕ) (r r′ : Slices) → paper r ≡ periodOf micros slice → paper r′ ≡ periodOf micros slice → r ≡ r′
+period-slices micros slice r r′ e e′ = paper-tells r r′ (same e e′)
+
+-- records: read_list
+pub read-list : (input : List ℕ) (r r′ : Parsed) → Reads input (readPaper r) → Reads input (readPaper r′) → r ≡ r′
+read-list input r r′ R R′ = reads-one r r′ R R′
+
+-- printing: write_refusal, write_table, with the lent bytes
+pub write-refusal : (number task : ℕ) (margin : ℤ) (old new new′ : List ℕ) (r r′ : ℕ)
+    → Written (refusalText number task margin) old new r → Written (refusalText number task margin) old new′ r′ → (r ≡ r′) × (new ≡ new′)
+write-refusal number task margin old new new′ r r′ W W′ = written-one W W′
+
+pub write-table : (table : List ℕ) (cycle : ℕ) (old new new′ : List ℕ) (r r′ : ℕ)
+    → Written (tableText (take cycle table)) old new r → Written (tableText (take cycle table)) old new′ r′ → (r ≡ r′) × (new ≡ new′)
+write-table table cycle old new new′ r r′ W W′ = written-one W W′
+
+-- bench: task_in; close_slice and drive, with the lent bytes and ends
+pub task-in : (period runtime memory slice : ℕ) (r r′ : Task) → r ≡ taskIn period runtime memory slice → r′ ≡ taskIn period runtime memory slice → r ≡ r′
+task-in period runtime memory slice r r′ e e′ = same e e′
+
+pub close-slice : (table needs : List ℕ) (c : Course) (log log′ ends ends′ : List ℕ) (r r′ : Next)
+    → SliceClosed table needs c log ends r → SliceClosed table needs c log′ ends′ r′ → (r ≡ r′) × (log ≡ log′) × (ends ≡ ends′)
+close-slice table needs c log log′ ends ends′ r r′ S S′ =
+    let after = same (S .after) (S′ .after) in (
+      ap₂ (λ (a : Closed) (x : State). record { answer = a; state = x }) (same (S .answer) (S′ .answer)) (ap (λ (x : Course). x .state) after),
+      ap (λ (x : Course). x .log) after,
+      ap (λ (x : Course). x .ends) after,
+    )
+
+pub record SameDrive (table table′ log log′ ends ends′ : List ℕ) (r r′ : Driven) : Type 0 where
+  pub answer : r ≡ r′
+  pub table-same : table ≡ table′
+  pub log-same : log ≡ log′
+  pub ends-same : ends ≡ ends′
+
+pub drive : (l : TaskList) (supply : ℕ) (asked : Asked) (clock : ℕ) (needs table new new′ log log₁ log₂ ends ends₁ ends₂ : List ℕ) (r r′ : Driven)
+    → Drives l supply asked clock needs table new log log₁ ends ends₁ r → Drives l supply asked clock needs table new′ log log₂ ends ends₂ r′ → SameDrive new new′ log₁ log₂ ends₁ ends₂ r r′
+drive l supply asked clock needs table new new′ log log₁ log₂ ends ends₁ ends₂ r r′ D D′ =
+    let built = build l supply table new new′ (r .built) (r′ .built) (D .built) (D′ .built) in
+    let whole : _≡_ {A = Course} (record { state = r .state; log = log₁; ends = ends₁ }) (record { state = r′ .state; log = log₂; ends = ends₂ }) =
+    D .whole ∙ ap (λ (t : List ℕ). courseAt t needs (begun l supply asked clock log ends) (begun l supply asked clock log ends .state .cycle)) (built .1) ∙ sym (D′ .whole) in
+    record {
+      answer = rw (built .0, same (D .started) (D′ .started), ap (λ (x : Course). x .state) whole);
+      table-same = built .1;
+      log-same = ap (λ (x : Course). x .log) whole;
+      ends-same = ap (λ (x : Course). x .ends) whole;
+    }

@@ -1,0 +1,2 @@
+-- Laws that the proofs of the sheet cite.
+pub mod Margins

@@ -1,0 +1,167 @@
+// The sheet that a drive of the bench's five tasks prints: what list it is, how tight, and how each job ended.
+use bench::Driven;
+use libc::STDOUT_FILENO;
+use readings::Logged;
+use run::Mode;
+use start::Begun;
+use tasks::TaskList;
+use verdict::Verdict;
+
+fn say(text: &[u8]) {
+    io::write_all(STDOUT_FILENO, text);
+}
+
+// A text, and a number after it.
+fn say_number(text: &[u8], number: u64) {
+    io::write_all(STDOUT_FILENO, text);
+    io::print_decimal(STDOUT_FILENO, number);
+}
+
+// A text, and a margin after it, which is signed.
+pub fn say_margin(text: &[u8], margin: i32) {
+    if margin < 0 {
+        say(text);
+        say_number(b"-", (0 - (margin as i64)) as u64);
+    } else {
+        say_number(text, margin as u64);
+    }
+}
+
+fn say_name(task: usize) {
+    match task {
+        1 => say(b" positioner"),
+        2 => say(b" power meter"),
+        3 => say(b" sweep"),
+        4 => say(b" link watch"),
+        5 => say(b" log writer"),
+        _ => {}
+    }
+}
+
+fn say_verdict(cycle: u32, jobs: u32, task: usize, margin: i32) {
+    say_number(b"cycle ", cycle as u64);
+    say_number(b", jobs ", jobs as u64);
+    say_number(b"; tightest task ", task as u64);
+    say_name(task);
+    say_margin(b", margin ", margin);
+    say(b"\n");
+}
+
+fn say_refusal(number: u32, task: usize, margin: i32) {
+    say_number(b"refusal ", number as u64);
+    say_number(b", task ", task as u64);
+    say_margin(b", margin ", margin);
+    say(b"\n");
+}
+
+fn say_not_built(built: Verdict) {
+    match built {
+        Verdict::Refused {
+            number,
+            task,
+            margin,
+        } => say_refusal(number, task, margin),
+        _ => {}
+    }
+}
+
+fn say_not_begun(begun: Begun) {
+    match begun {
+        Begun::Refused {
+            number,
+            task,
+            margin,
+        } => say_refusal(number, task, margin),
+        _ => {}
+    }
+}
+
+fn say_mode(mode: Mode) {
+    match mode {
+        Mode::Table => say(b"run by the table"),
+        Mode::Filling => say(b"run filling freed slices"),
+    }
+}
+
+// The log byte in words. No result is never a pass.
+fn say_result(byte: u8) {
+    let logged = readings::read_logged(byte);
+    match logged {
+        Logged::NoResult => say(b" none"),
+        Logged::Done => say(b" done"),
+        Logged::Over => say(b" over"),
+        Logged::Late => say(b" late"),
+        Logged::Damaged(_) => say(b" damaged"),
+    }
+}
+
+fn end_at(ends: &[u32], at: usize) -> u32 {
+    if at < ends.len() { ends[at] } else { 0 }
+}
+
+fn say_job(task: usize, job: u32, byte: u8, end: u32) {
+    say_number(b"task ", task as u64);
+    say_name(task);
+    say_number(b", job ", job as u64);
+    say_number(b": ", byte as u64);
+    say_result(byte);
+    say_number(b", ended at ", end as u64);
+    say(b"\n");
+}
+
+// A period of 0 has no job.
+fn jobs_in(cycle: u32, period: u32) -> u32 {
+    if period == 0 { 0 } else { cycle / period }
+}
+
+// The jobs of one task, whose places in the log begin at `from`. Answers where those of the next task begin.
+fn say_jobs(task: usize, jobs: u32, from: usize, log: &[u8], ends: &[u32]) -> usize {
+    let mut at = from;
+    let mut job = 0;
+    while job < jobs && at < log.len() {
+        say_job(task, job, log[at], end_at(ends, at));
+        at += 1;
+        job += 1;
+    }
+    at
+}
+
+fn say_tasks(list: TaskList, cycle: u32, log: &[u8], ends: &[u32]) {
+    let tasks = list.tasks;
+    let count = list.count;
+    let mut from = 0;
+    let mut i = 0;
+    while i < 16 && i < count {
+        let task = tasks[i];
+        from = say_jobs(i + 1, jobs_in(cycle, task.period), from, log, ends);
+        i += 1;
+    }
+}
+
+// Prints the sheet of a drive.
+pub fn print(title: &[u8], list: TaskList, driven: Driven, log: &[u8], ends: &[u32]) {
+    say(title);
+    let built = driven.built;
+    let begun = driven.begun;
+    let state = driven.state;
+    let Verdict::Accepted {
+        cycle,
+        jobs,
+        task,
+        margin,
+    } = built
+    else {
+        say_not_built(built);
+        return;
+    };
+    say_verdict(cycle, jobs, task, margin);
+    let Begun::Accepted = begun else {
+        say_not_begun(begun);
+        return;
+    };
+    let mode = state.mode;
+    say_mode(mode);
+    say_number(b", slices closed ", state.position as u64);
+    say(b"\n");
+    say_tasks(list, cycle, log, ends);
+}

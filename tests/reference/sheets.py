@@ -1,0 +1,60 @@
+"""The sheets of the bench's two lists, worked by the model and compared with what the programs store.
+
+The lists are read from examples/, the microseconds and the needs stand here as the programs have them.
+"""
+
+import csv
+import os
+
+import model
+
+HERE = os.path.dirname(os.path.abspath(__file__))
+ROOT = os.path.join(HERE, "..", "..")
+NAMES = ["positioner", "power meter", "sweep", "link watch", "log writer"]
+WORDS = {0: "none", 1: "done", 2: "over", 3: "late"}
+SLICE = 500
+SUPPLY = 65536
+
+# name: (period and run-time in microseconds), needs
+SHEETS = {
+    "night": (
+        [(20000, 2800), (10000, 2000), (40000, 11900), (5000, 350), (80000, 5800)],
+        [[5, 4, 4, 3], [3, 3, 3, 3, 3, 6, 3, 3], [22, 27], [1] * 16, [9]],
+    ),
+    "calibration": (
+        [(10000, 1900), (7500, 2000), (30000, 6750), (6000, 350), (60000, 2700)],
+        [[3, 3, 2, 3, 7, 3], [4, 3, 3, 3, 4, 3, 3, 3], [12, 16], [1] * 10, [5]],
+    ),
+}
+
+
+def sheet(name):
+    micros, needs = SHEETS[name]
+    with open(os.path.join(ROOT, "examples", name + ".csv"), newline="") as file:
+        tasks = tuple(model.Task(*map(int, row)) for row in csv.reader(file))
+    for task, (period, runtime) in zip(tasks, micros):
+        assert model.period_in_slices(period, SLICE) == (0, task.period)
+        assert model.runtime_in_slices(runtime, SLICE) == (0, task.runtime)
+    answer = model.verdict(tasks, SUPPLY)
+    assert answer.refusal == 0
+    # memory decides nothing but refusal 5, and the model's drive has no supply
+    log, ends = model.drive(model.bare(*((t.period, t.runtime) for t in tasks)), model.NONE_NAMED, needs)
+    lines = [
+        "%s: 5 tasks in slices of %d microseconds" % (name, SLICE),
+        "cycle %d, jobs %d; tightest task %d %s, margin %d"
+        % (answer.cycle, answer.jobs, answer.task, NAMES[answer.task - 1], answer.margin),
+        "run by the table, slices closed %d" % answer.cycle,
+    ]
+    bytes_left = iter(log)
+    for i, row in enumerate(ends):
+        for k, end in enumerate(row):
+            byte = next(bytes_left)
+            lines.append("task %d %s, job %d: %d %s, ended at %d" % (i + 1, NAMES[i], k, byte, WORDS[byte], end))
+    return "\n".join(lines) + "\n"
+
+
+if __name__ == "__main__":
+    for name in SHEETS:
+        with open(os.path.join(ROOT, "crates", name, "stdout")) as file:
+            assert file.read() == sheet(name), name
+    print("sheets: %d stored sheets are as the model works them" % len(SHEETS))
