@@ -1,0 +1,2 @@
+-- Laws that the proofs on answers cite.
+pub mod Answers

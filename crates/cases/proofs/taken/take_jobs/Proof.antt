@@ -1,0 +1,54 @@
+-- `taken::take_jobs` is safe and ends.
+use Prim.Native.Nat.{_-_}
+use borrow.Author.Needs.{needs}
+use Rattle.cases.proofs.taken.take_jobs.Statement.{statement}
+use Rattle.cases.proofs.taken.take_jobs.Tie as tie
+
+abbrev Inv-loop : tie.InvT-loop
+Inv-loop jobs₀ formed₀ i₀ jobs formed i = Unit {0}
+
+abbrev μ-loop : tie.MeasureT-loop
+μ-loop jobs₀ formed₀ i₀ jobs formed i = 16 - i
+
+loop-holds : tie.Need-loop-holds Inv-loop μ-loop
+loop-holds c = search needs
+
+word-requires : tie.Need-word-requires Inv-loop μ-loop
+word-requires c κs = search needs
+
+byte-requires : tie.Need-byte-requires Inv-loop μ-loop
+byte-requires c κs = search needs
+
+mul-jobs : tie.Need-mul-jobs Inv-loop μ-loop
+mul-jobs c = search needs
+
+array-set-from-jobs : tie.Need-array-set-from-jobs Inv-loop μ-loop
+array-set-from-jobs c = search needs
+
+add-i : tie.Need-add-i Inv-loop μ-loop
+add-i c = search needs
+
+loop-less : tie.Need-loop-less Inv-loop μ-loop
+loop-less c = search needs
+
+loop-again : tie.Need-loop-again Inv-loop μ-loop
+loop-again c = search needs
+
+returns : tie.Need-returns Inv-loop μ-loop
+returns c = search needs
+
+pub take-jobs-spec : {M : Type 1} → statement M
+take-jobs-spec =
+    tie.close
+    (tie.spec
+    Inv-loop
+    μ-loop
+    loop-holds
+    word-requires
+    byte-requires
+    mul-jobs
+    array-set-from-jobs
+    add-i
+    loop-less
+    loop-again
+    returns)

@@ -1,0 +1,20 @@
+-- Answers of the library in the numbers of the file of reference cases.
+use Rattle.verdict.specs.declared.Verdict.{Verdict}
+use Rattle.verdict.specs.Verdict.{numbers}
+use Rattle.start.specs.declared.Begun.{Begun}
+use Rattle.start.specs.declared.Begun.the-variants.{Accepted, Refused}
+use Rattle.cases.specs.declared.Answer.{Answer}
+
+unfoldable pub answerOf : Verdict → Answer
+answerOf v = record {
+  refusal = numbers v .number;
+  task = numbers v .task;
+  margin = numbers v .signed;
+  cycle = numbers v .cycle;
+  jobs = numbers v .jobs;
+}
+
+-- An accepted start answers nothing beside the state; the verdict on the list stands for it.
+unfoldable pub startAnswerOf : Begun → Answer → Answer
+startAnswerOf Accepted verdict = verdict
+startAnswerOf (Refused number task margin) verdict = record { refusal = number; task = task; margin = margin; cycle = 0; jobs = 0 }

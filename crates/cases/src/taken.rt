@@ -1,0 +1,212 @@
+// Numbers from standard input, little-endian, and what they make. Bytes that are not there read as 0: no tag follows them.
+use crate::Answer;
+use libc::STDIN_FILENO;
+use run::Job;
+use run::Mode;
+use run::State;
+use run::Timing;
+use tasks::Task;
+use tasks::TaskList;
+
+pub fn byte() -> u8 {
+    let mut b = [0u8; 1];
+    io::read_full(STDIN_FILENO, &mut b);
+    b[0]
+}
+
+fn joined(a: u8, b: u8, c: u8, d: u8) -> u32 {
+    a as u32 + b as u32 * 256 + c as u32 * 65536 + d as u32 * 16777216
+}
+
+fn word_of(b: &[u8; 4]) -> u32 {
+    joined(b[0], b[1], b[2], b[3])
+}
+
+pub fn word() -> u32 {
+    let mut b = [0u8; 4];
+    io::read_full(STDIN_FILENO, &mut b);
+    word_of(&b)
+}
+
+// A length, a place or a task.
+pub fn size() -> usize {
+    word() as usize
+}
+
+fn signed(w: u32) -> i32 {
+    if w < 2147483648 {
+        return w as i32;
+    }
+    (w as i64 - 4294967296) as i32
+}
+
+pub fn take_answer() -> Answer {
+    let refusal = byte();
+    let task = byte();
+    let margin = word();
+    let cycle = word();
+    let jobs = word();
+    Answer {
+        refusal: refusal as u32,
+        task: task as usize,
+        margin: signed(margin),
+        cycle,
+        jobs,
+    }
+}
+
+fn take_task() -> Task {
+    let period = word();
+    let runtime = word();
+    let memory = word();
+    Task {
+        period,
+        runtime,
+        memory,
+    }
+}
+
+// The first 16 tasks are kept; more are only counted.
+fn keep(tasks: [Task; 16], i: usize, task: Task) -> [Task; 16] {
+    if 16 <= i {
+        return tasks;
+    }
+    let mut after = tasks;
+    after[i] = task;
+    after
+}
+
+// The tasks of a list that is so long.
+pub fn take_list(count: usize) -> TaskList {
+    let mut tasks = [Task {
+        period: 0,
+        runtime: 0,
+        memory: 0,
+    }; 16];
+    let mut i = 0;
+    while i < count {
+        let after = keep(tasks, i, take_task());
+        tasks = after;
+        i += 1;
+    }
+    TaskList { tasks, count }
+}
+
+fn take_timing() -> Timing {
+    let period = word();
+    let runtime = word();
+    Timing { period, runtime }
+}
+
+fn take_tasks() -> [Timing; 16] {
+    let mut tasks = [Timing {
+        period: 0,
+        runtime: 0,
+    }; 16];
+    let mut i = 0;
+    while i < 16 {
+        tasks[i] = take_timing();
+        i += 1;
+    }
+    tasks
+}
+
+// Jobs, and whether each `ended` is 0 or 1.
+struct Jobs {
+    jobs: [Job; 16],
+    formed: bool,
+}
+
+fn take_jobs() -> Jobs {
+    let mut jobs = [Job {
+        used: 0,
+        ended: false,
+    }; 16];
+    let mut formed = true;
+    let mut i = 0;
+    while i < 16 {
+        let used = word();
+        let ended = byte();
+        jobs[i] = Job {
+            used,
+            ended: ended == 1,
+        };
+        formed = formed & (ended <= 1);
+        i += 1;
+    }
+    Jobs { jobs, formed }
+}
+
+fn mode_of(byte: u8) -> Mode {
+    if byte == 0 {
+        Mode::Table
+    } else {
+        Mode::Filling
+    }
+}
+
+fn take_count() -> usize {
+    let low = word();
+    let high = word();
+    (high as u64 * 4294967296 + low as u64) as usize
+}
+
+// A state, and whether its bytes are those of one.
+pub struct Given {
+    pub state: State,
+    pub formed: bool,
+}
+
+pub fn take_state() -> Given {
+    let count = take_count();
+    let cycle = word();
+    let position = word();
+    let clock = word();
+    let mode = byte();
+    let tasks = take_tasks();
+    let taken = take_jobs();
+    let jobs = taken.jobs;
+    Given {
+        state: State {
+            tasks,
+            jobs,
+            count,
+            cycle,
+            position,
+            clock,
+            mode: mode_of(mode),
+        },
+        formed: taken.formed & (mode <= 1),
+    }
+}
+
+// The last word of the file, and whether the file ends right after it.
+pub struct Last {
+    pub count: u32,
+    pub formed: bool,
+}
+
+pub fn take_last() -> Last {
+    let mut b = [0u8; 4];
+    let got = io::read_full(STDIN_FILENO, &mut b);
+    let mut more = [0u8; 1];
+    let beyond = io::read_full(STDIN_FILENO, &mut more);
+    Last {
+        count: word_of(&b),
+        formed: (got == 4) & (beyond == 0),
+    }
+}
+
+// Whether the file opens as it has to.
+pub fn take_magic() -> bool {
+    let mut magic = [0u8; 8];
+    io::read_full(STDIN_FILENO, &mut magic);
+    check::same(&magic, b"SLICES01")
+}
+
+// A record's tag, or one that is none at the end of the input.
+pub fn take_tag() -> u8 {
+    let mut tag = [255u8; 1];
+    io::read_full(STDIN_FILENO, &mut tag);
+    tag[0]
+}

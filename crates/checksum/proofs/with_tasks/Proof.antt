@@ -1,0 +1,61 @@
+-- `with_tasks` meets its contract: place by place.
+use Prim.Native.Nat.{_≤_, _-_}
+use Rattle.checksum.specs.Checksum.{overTasks}
+use Rattle.run.specs.State.{noTiming}
+use borrow.Author.Needs.{needs}
+use mathlib.Core.Path.{_≡_, refl}
+use native.Mathlib.Numerals.{add-one}
+use native.Mathlib.Omega.{arith}
+use Rattle.checksum.proofs.with_tasks.Statement.{statement}
+use Rattle.checksum.proofs.with_tasks.Tie as tie
+
+abbrev Inv-loop : tie.InvT-loop
+Inv-loop h tasks sum₀ i₀ sum i = (i ≤ 16) × (sum ≡ overTasks h tasks i)
+
+abbrev μ-loop : tie.MeasureT-loop
+μ-loop h tasks sum₀ i₀ sum i = 16 - i
+
+loop-holds : tie.Need-loop-holds Inv-loop μ-loop
+unfolding overTasks
+loop-holds c = (omega arith, refl)
+
+mul-task : tie.Need-mul-task Inv-loop μ-loop
+mul-task c = search needs
+
+array-copy-out-task : tie.Need-array-copy-out-task Inv-loop μ-loop
+array-copy-out-task c = search needs
+
+with-word-requires : tie.Need-with-word-requires Inv-loop μ-loop
+with-word-requires c κs = search needs
+
+with-word-requires-2 : tie.Need-with-word-requires-2 Inv-loop μ-loop
+with-word-requires-2 c κs = search needs
+
+add-i : tie.Need-add-i Inv-loop μ-loop
+add-i c = search needs
+
+loop-less : tie.Need-loop-less Inv-loop μ-loop
+loop-less c = search needs
+
+loop-again : tie.Need-loop-again Inv-loop μ-loop
+unfolding overTasks noTiming
+loop-again c = (omega arith, rw add-one (cc))
+
+returns : tie.Need-returns Inv-loop μ-loop
+returns c = let e : c .before .loop .i ≡ 16 = omega arith in cc
+
+pub with-tasks-spec : {M : Type 1} → statement M
+with-tasks-spec =
+    tie.close
+    (tie.spec
+    Inv-loop
+    μ-loop
+    loop-holds
+    mul-task
+    array-copy-out-task
+    with-word-requires
+    with-word-requires-2
+    add-i
+    loop-less
+    loop-again
+    returns)

@@ -1,0 +1,99 @@
+// The checksum of the file of reference cases: FNV-1a of 32 bits, over a run of bytes and over a state.
+ghost use mathlib.Core.Path.{_≡_};
+ghost use lib.ListN.{length};
+ghost use Rattle.checksum.specs.Checksum.{mix, overWord, overBytes, overTasks, overJobs, endedByte, modeByte, ofBytes, ofState};
+use run::Mode;
+use run::State;
+
+fn with_byte(h: u32, byte: u8) -> u32
+    ensures { λ r. ⌜ r ≡ mix h byte ⌝ }
+{
+    let mixed = h ^ (byte as u32);
+    (mixed as u64 * 16777619 % 4294967296) as u32
+}
+
+fn with_word(h: u32, w: u32) -> u32
+    ensures { λ r. ⌜ r ≡ overWord h w ⌝ }
+{
+    let a = with_byte(h, (w % 256) as u8);
+    let b = with_byte(a, (w / 256 % 256) as u8);
+    let c = with_byte(b, (w / 65536 % 256) as u8);
+    with_byte(c, (w / 16777216) as u8)
+}
+
+// Goes on from a checksum over more bytes.
+pub fn with_bytes(h: u32, bytes: &[u8]) -> u32
+    ensures { λ r. ⌜ r ≡ overBytes h (now (bytes .entry)) (length (now (bytes .entry))) ⌝ }
+{
+    let mut sum = h;
+    let mut i = 0;
+    while i < bytes.len() {
+        sum = with_byte(sum, bytes[i]);
+        i += 1;
+    }
+    sum
+}
+
+pub fn of_bytes(bytes: &[u8]) -> u32
+    ensures { λ r. ⌜ r ≡ ofBytes (now (bytes .entry)) ⌝ }
+{
+    with_bytes(2166136261, bytes)
+}
+
+fn with_tasks(h: u32, state: State) -> u32
+    ensures { λ r. ⌜ r ≡ overTasks h (state .tasks) 16 ⌝ }
+{
+    let tasks = state.tasks;
+    let mut sum = h;
+    let mut i = 0;
+    while i < 16 {
+        let task = tasks[i];
+        sum = with_word(with_word(sum, task.period), task.runtime);
+        i += 1;
+    }
+    sum
+}
+
+fn ended_byte(ended: bool) -> u8
+    ensures { λ r. ⌜ r ≡ endedByte ended ⌝ }
+{
+    if ended { 1 } else { 0 }
+}
+
+fn with_jobs(h: u32, state: State) -> u32
+    ensures { λ r. ⌜ r ≡ overJobs h (state .jobs) 16 ⌝ }
+{
+    let jobs = state.jobs;
+    let mut sum = h;
+    let mut i = 0;
+    while i < 16 {
+        let job = jobs[i];
+        sum = with_byte(with_word(sum, job.used), ended_byte(job.ended));
+        i += 1;
+    }
+    sum
+}
+
+fn mode_byte(state: State) -> u8
+    ensures { λ r. ⌜ r ≡ modeByte (state .mode) ⌝ }
+{
+    let mode = state.mode;
+    match mode {
+        Mode::Table => 0,
+        Mode::Filling => 1,
+    }
+}
+
+// The 229 bytes of a state, in the format's order.
+pub fn of_state(state: State) -> u32
+    ensures { λ r. ⌜ r ≡ ofState state ⌝ }
+{
+    let count = state.count as u64;
+    let low = with_word(2166136261, (count % 4294967296) as u32);
+    let high = with_word(low, (count / 4294967296) as u32);
+    let cycle = with_word(high, state.cycle);
+    let position = with_word(cycle, state.position);
+    let clock = with_word(position, state.clock);
+    let mode = with_byte(clock, mode_byte(state));
+    with_jobs(with_tasks(mode, state), state)
+}
