@@ -6,19 +6,20 @@ use mathlib.Core.List.{List}
 use Prim.Native.Nat.{ℕ, suc}
 use lib.Dec.{ltb}
 use lib.ListN.{length}
-use Rattle.basis.specs.Choose.{bool-cases, choose-yes, choose-no}
+use borrow.Author.Tests.{eq-eqb, ne-eqb}
+use Rattle.basis.specs.Choose.{choose, bool-cases, choose-yes, choose-no, eq-or-ne}
 use mathlib.Core.Logic.{⊎-elim}
 use mathlib.Core.Bool.{true}
 use Rattle.tasks.specs.declared.TaskList.{TaskList}
+use Rattle.tasks.specs.Bounds.{found, answer, boundsOf, boundsNumbers}
 use Rattle.verdict.specs.declared.Verdict.{Verdict}
 use Rattle.verdict.specs.declared.Verdict.the-variants.{Accepted, Refused}
 use Rattle.verdict.specs.Verdict.{verdictOf, numbers}
 use Rattle.verdict.specs.Table.{tabled, Built}
 use Rattle.run.specs.declared.State.{State}
 use Rattle.run.specs.declared.Next.{Next}
-use Rattle.run.specs.declared.Closed.the-variants as closed
 use Rattle.run.specs.State.{sound, within, every}
-use Rattle.run.specs.Step.{stepRefusal, answerOf, nextState, nextLog, Stepped}
+use Rattle.run.specs.Step.{stepRefusal, nextState, nextLog, Stepped, closedNumber, closed-number}
 use Rattle.start.specs.declared.Asked.{Asked}
 use Rattle.start.specs.declared.Begun.{Begun}
 use Rattle.start.specs.declared.Started.{Started}
@@ -26,6 +27,15 @@ use Rattle.start.specs.Start.{noRun, begunOf, begunState, begunLog, Begins, beg
 use Rattle.readings.specs.declared.Logged.the-variants.{NoResult, Done}
 use Rattle.readings.specs.Reading.{loggedOf}
 use Rattle.readings.specs.Laws.{reads-results, done-is-one}
+
+-- What breaks a bound is refused by the number that is found first, with the task that it names.
+pub bounds-named : (l : TaskList) (supply : ℕ) → (boundsNumbers (boundsOf l supply) .number ≡ found l supply .number)
+unfolding boundsNumbers boundsOf answer choose
+bounds-named l supply =
+    ⊎-elim
+    (λ (z : found l supply .number ≡ 0). rw (eq-eqb (found l supply .number) 0 z, z))
+    (λ (nz : found l supply .number ≡ 0 → ⊥). rw (ne-eqb (found l supply .number) 0 nz))
+    (eq-or-ne (found l supply .number) 0)
 
 -- A refused build writes nothing.
 pub build-refused : (l : TaskList) (supply : ℕ) (old new : List ℕ) (v : Verdict) → Built l supply old new v → (numbers v .number ≡ 0 → ⊥) → new ≡ old
@@ -63,14 +73,14 @@ no-run-unsound = refl
 
 -- A refused step gives back the state that it got, bit for bit, and writes nothing.
 pub record NotStepped (s : State) (log log′ : List ℕ) (r : Next) (number : ℕ) : Type 0 where
-  pub answer : r .answer ≡ closed.Refused number
+  pub answer : closedNumber (r .answer) ≡ number
   pub state-kept : r .state ≡ s
   pub log-kept : log′ ≡ log
 
 pub step-refused : (s : State) (tab : List ℕ) (clock report : ℕ) (log log′ : List ℕ) (r : Next) (n : ℕ) → stepRefusal s tab clock report log ≡ suc n → Stepped s tab clock report log log′ r
     → NotStepped s log log′ r (suc n)
-unfolding answerOf nextState nextLog
-step-refused s tab clock report log log′ r n e S = record { answer = rw e at (S .answer); state-kept = rw e at (S .state); log-kept = rw e at (S .bytes) }
+unfolding nextState nextLog
+step-refused s tab clock report log log′ r n e S = record { answer = ap closedNumber (S .answer) ∙ closed-number (stepRefusal s tab clock report log) ∙ e; state-kept = rw e at (S .state); log-kept = rw e at (S .bytes) }
 
 -- A byte of 0 reads as no result, and only a 1 reads as done.
 pub zero-is-no-result : loggedOf 0 ≡ NoResult

@@ -24,8 +24,8 @@ use Rattle.tasks.specs.Bounds.{cycleOf, jobSum, jobsOf}
 use Rattle.tasks.specs.Kept.{plan-monotonic, cycle-pos, period-divides-cycle}
 use Rattle.start.specs.declared.Asked.{Asked}
 use Rattle.run.specs.declared.Mode.the-variants.{Table, Filling}
-use Rattle.run.specs.declared.Closed.the-variants as closed
 use Rattle.run.specs.State.{offset, jobCount}
+use Rattle.run.specs.Step.{closedNumber}
 use Rattle.start.specs.Start.{modeOf, begunNumbers}
 use Rattle.promises.specs.Drive.{Own, Drive, placeOf, isLogged, endIn}
 use Rattle.promises.specs.Reached.{Reached, resultByte, result-some, byteUpTo, byte-result, byte-none}
@@ -58,9 +58,9 @@ module _ (l : TaskList) (supply : ℕ) (asked : Asked) (clock : ℕ) (need : Dem
   reached p lp = reaches (planOf l) M whole (cycleOf l) need needs (A .on-time) tab own log (D .states) (D .logs) (D .answers) (D .steps) (modeOf asked) begun-reached p lp
 
   -- No step of a drive is refused.
-  pub no-step-refused : (p : ℕ) → p < cycleOf l → D .answers p .answer ≡ closed.Accepted
-  unfolding planOf
-  no-step-refused p lp = none-refused (planOf l) M whole (cycleOf l) need needs (A .on-time) tab own log (D .states) (D .logs) (D .answers) (D .steps) (modeOf asked) begun-reached p lp
+  pub no-step-refused : (p : ℕ) → p < cycleOf l → closedNumber (D .answers p .answer) ≡ 0
+  unfolding planOf closedNumber
+  no-step-refused p lp = ap closedNumber (none-refused (planOf l) M whole (cycleOf l) need needs (A .on-time) tab own log (D .states) (D .logs) (D .answers) (D .steps) (modeOf asked) begun-reached p lp)
 
   -- the places of the jobs stay where the list puts them
   offset-is : (p : ℕ) → p ≤ cycleOf l → (i : ℕ) → i ≤ l .count → offset (D .states p) i ≡ jobSum (l .tasks) (cycleOf l) i

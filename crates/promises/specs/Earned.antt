@@ -19,7 +19,7 @@ use Rattle.run.specs.declared.Next.{Next}
 use Rattle.run.specs.declared.Closed.the-variants.{Accepted}
 use Rattle.run.specs.State.{fresh, periodOf, jobOf, offset, place, lastSlice}
 use Rattle.run.specs.Who.{running}
-use Rattle.run.specs.Step.{stepRefusal, afterSlice, jobAfter, stateAfter, logAfter, Stepped}
+use Rattle.run.specs.Step.{stepRefusal, afterSlice, jobAfter, stateAfter, logAfter, Stepped, closedNumber}
 use Rattle.run.specs.Sound.{SoundState}
 use Rattle.run.specs.Places.{job-in-cycle}
 use Rattle.promises.specs.Demand1.{step-refused}
@@ -37,7 +37,7 @@ pub record Calls (s : ℕ → State) (g : ℕ → List ℕ) (tab : ℕ → List 
 pub record Earned (s : ℕ → State) (tab : ℕ → List ℕ) (report : ℕ → ℕ) (r : ℕ → Next) (n i k : ℕ) : Type 0 where
   pub call : ℕ
   pub before : call < n
-  pub accepted : r call .answer ≡ Accepted
+  pub accepted : closedNumber (r call .answer) ≡ 0
   pub ran-here : running (s call) (tab call) ≡ suc i
   pub that-job : s call .position / periodOf (s call) i ≡ k
   pub finished : report call ≡ 1
@@ -325,12 +325,13 @@ module _ (s : ℕ → State) (g : ℕ → List ℕ) (tab : ℕ → List ℕ) (cl
     earlier-too n i k E = record { call = E .call; before = omega (arith, E .before); accepted = E .accepted; ran-here = E .ran-here; that-job = E .that-job; finished = E .finished }
 
     earned-by : (n i k : ℕ) → i < s n .count → k < s n .cycle / periodOf (s n) i → (byteOf (s n) (g n) i k ≡ 1 → Earned s tab report r n i k) → byteOf (s (suc n)) (g (suc n)) i k ≡ 1 → Made n → Earned s tab report r (suc n) i k
+    unfolding closedNumber
     earned-by n i k li lk so-far one (same es eg) = earlier-too n i k (so-far (sym (rw (es, eg)) ∙ one))
     earned-by n i k li lk so-far one (moved A a es eg) =
         ⊎-elim
         (λ (z : byteOf (s n) (g n) i k ≡ 0).
         let b = pass-brought (s n) (tab n) (clock n) (report n) (g n) A (honest n) i k li lk z (sym (rw (es, eg)) ∙ one) in
-        record { call = n; before = omega arith; accepted = a; ran-here = b .0; that-job = b .1; finished = b .2 })
+        record { call = n; before = omega arith; accepted = ap closedNumber a; ran-here = b .0; that-job = b .1; finished = b .2 })
         (λ (nz : byteOf (s n) (g n) i k ≡ 0 → ⊥). earlier-too n i k (so-far (sym (never-rewritten n i k li lk nz) ∙ one)))
         (eq-or-ne (byteOf (s n) (g n) i k) 0)
 

@@ -1,5 +1,5 @@
 -- The step that closes the slice at the state's position: refusals 9 to 14, the log and the next state.
-use mathlib.Core.Path.{_≡_}
+use mathlib.Core.Path.{_≡_, refl}
 use mathlib.Core.List.{List}
 use mathlib.Core.Bool.{not, _&&_, _||_}
 use Prim.Native.Nat.{ℕ, zero, suc, _+_, _%_, _^_}
@@ -98,3 +98,14 @@ pub record Stepped (s : State) (table : List ℕ) (clock report : ℕ) (log log�
   pub answer : r .answer ≡ answerOf (stepRefusal s table clock report log)
   pub state : r .state ≡ nextState (stepRefusal s table clock report log) s (stateAfter s (running s table) clock report)
   pub bytes : log′ ≡ nextLog (stepRefusal s table clock report log) log (logAfter s (running s table) report log)
+
+-- The paper's number of refusal for each case; 0 for none.
+unfoldable pub closedNumber : Closed → ℕ
+closedNumber Accepted = 0
+closedNumber (Refused n) = n
+
+-- What a step's answer says is the refusal that was found.
+pub closed-number : (n : ℕ) → closedNumber (answerOf n) ≡ n
+unfolding closedNumber answerOf
+closed-number zero = refl
+closed-number (suc n) = refl

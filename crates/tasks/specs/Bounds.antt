@@ -89,3 +89,15 @@ answer f cycle jobs = choose (eqb (f .number) 0) (Kept cycle jobs) (Broken (f .n
 
 unfoldable pub boundsOf : TaskList → ℕ → Bounds
 boundsOf l supply = answer (found l supply) (cycleOf l) (jobsOf l)
+
+-- ---- the paper's number and values for each case
+-- Refusal number (0: none) and task, cycle and job count. Refused, cycle and job count are 0.
+pub record BoundsNumbers : Type 0 where
+  pub number : ℕ
+  pub task : ℕ
+  pub cycle : ℕ
+  pub jobs : ℕ
+
+unfoldable pub boundsNumbers : Bounds → BoundsNumbers
+boundsNumbers (Kept cycle jobs) = record { number = 0; task = 0; cycle = cycle; jobs = jobs }
+boundsNumbers (Broken number task) = record { number = number; task = task; cycle = 0; jobs = 0 }
