@@ -28,7 +28,7 @@ use Rattle.readings.specs.declared.Logged.the-variants.{NoResult, Done}
 use Rattle.readings.specs.Reading.{loggedOf}
 use Rattle.readings.specs.Laws.{reads-results, done-is-one}
 
--- What breaks a bound is refused by the number that is found first, with the task that it names.
+-- What breaks a bound is refused by the number that is found first. (The task named is `broken-tells` of the tasks' Kept.)
 pub bounds-named : (l : TaskList) (supply : ℕ) → (boundsNumbers (boundsOf l supply) .number ≡ found l supply .number)
 unfolding boundsNumbers boundsOf answer choose
 bounds-named l supply =
