@@ -6,8 +6,16 @@ use Prim.Native.Nat.{ℕ, zero, suc, _+_, _≤_, _<_}
 use native.Mathlib.Omega.{arith}
 use native.Mathlib.Numerals.{add-one}
 use lib.ListN.{length, getD, set, length-set}
-use lib.Seq.{getD-set-same, getD-set-other}
-use Rattle.basis.specs.Choose.{below-suc}
+use lib.Seq.{getD-set-same, getD-set-other, set-getD}
+use Rattle.basis.specs.Choose.{below-suc, le-or-lt}
+
+-- the number at a place, 0 past the end
+abbrev pub at : List ℕ → ℕ → ℕ
+at l i = getD l i 0
+
+-- what is as it was, written or not
+pub as-it-was : (l : List ℕ) (k v : ℕ) → v ≡ at l k → l ≡ set l k v
+as-it-was l k v e = sym (ap (set l k) e ∙ set-getD l k 0)
 
 -- The first n elements are f 0, f 1, .. and the others as they were.
 unfoldable pub overwrite : {A : Type 0} → (ℕ → A) → ℕ → List A → List A
@@ -50,3 +58,16 @@ pub overwrite-same : {A : Type 0} (f g : ℕ → A) (old : List A) (n : ℕ) →
 unfolding overwrite
 overwrite-same f g old zero h = refl
 overwrite-same f g old (suc n) h = ap₂ (λ (l : List _) (x : _). set l n x) (overwrite-same f g old n (λ i l. h i (omega arith))) (h n (omega arith))
+
+-- What is as it was need not be written.
+pub overwrite-rest : {A : Type 0} (f : ℕ → A) (old : List A) (d : A) (k n : ℕ) → k ≤ n → ((j : ℕ) → k ≤ j → j < n → f j ≡ getD old j d) → overwrite f n old ≡ overwrite f k old
+unfolding overwrite
+overwrite-rest f old d k zero l h = let e : 0 ≡ k = omega arith in ap (λ (x : ℕ). overwrite f x old) e
+overwrite-rest f old d k (suc n) l h =
+    ⊎-elim
+    (λ (a : k ≤ n).
+    ap (set (overwrite f n old) n) (h n a (omega arith) ∙ sym (overwrite-kept f old d n n (omega arith)))
+    ∙ set-getD (overwrite f n old) n d
+    ∙ overwrite-rest f old d k n a (λ j lj ln. h j lj (omega arith)))
+    (λ (b : n < k). let e : suc n ≡ k = omega arith in ap (λ (x : ℕ). overwrite f x old) e)
+    (le-or-lt k n)

@@ -1,5 +1,5 @@
 -- Places beyond the task count do not matter: two lists of one count whose tasks are the same give the same bounds, verdict, table and timings.
-use mathlib.Core.Path.{_≡_, refl, ap, _∙_}
+use mathlib.Core.Path.{_≡_, refl, sym, ap, _∙_}
 use mathlib.Core.Bool.{Bool, _&&_, _||_}
 use mathlib.Core.List.{List}
 use mathlib.Core.Logic.{⊎-elim}
@@ -14,6 +14,7 @@ use Rattle.basis.specs.Least.{least}
 use Rattle.basis.specs.Sum.{sum-ext}
 use Rattle.plan.specs.Plan.{Plan, job, age, keyIn, wants, pick, gets, had, entry, table, given, first, ranksBefore, IsFirst, NoneWants, FirstTask}
 use Rattle.plan.specs.Rank.{first-law, first-ext}
+use Rattle.plan.specs.Run.{had-first, had-next}
 use Rattle.tasks.specs.declared.Task.{Task}
 use Rattle.tasks.specs.declared.TaskList.{TaskList}
 use Rattle.tasks.specs.declared.Finding.{Finding}
@@ -79,9 +80,13 @@ module _ (ts us : List Task) (n : ℕ) (same : (i : ℕ) → i < n → taskAt ts
   pick-same t h k e = first-ext (keyIn P t) (keyIn Q t) (wants P (P .runtime) t h) (wants Q (Q .runtime) t k) n (key-same t) (λ i li. wants-same t h k i li (e i li))
 
   had-same : (t i : ℕ) → i < n → had P (P .runtime) t i ≡ had Q (Q .runtime) t i
-  unfolding had age planOf
-  had-same zero i li = refl
-  had-same (suc t) i li = λ j. choose (eqb (suc t % same i li j .period) 0) 0 (had-same t i li j + gets (pick-same t (had P (P .runtime) t) (had Q (Q .runtime) t) (had-same t) j) i)
+  unfolding entry age planOf
+  had-same zero i li = had-first P (P .runtime) i ∙ sym (had-first Q (Q .runtime) i)
+  had-same (suc t) i li =
+      let step : choose (eqb (age P i (suc t)) 0) 0 (had P (P .runtime) t i + gets (entry P (P .runtime) t) i) ≡ choose (eqb (age Q i (suc t)) 0) 0 (had Q (Q .runtime) t i + gets (entry Q (Q .runtime) t) i) =
+      λ j. choose (eqb (suc t % same i li j .period) 0) 0 (had-same t i li j + gets (pick-same t (had P (P .runtime) t) (had Q (Q .runtime) t) (had-same t) j) i)
+      in
+      had-next P (P .runtime) i li t ∙ step ∙ sym (had-next Q (Q .runtime) i li t)
 
   entry-same : (t : ℕ) → entry P (P .runtime) t ≡ entry Q (Q .runtime) t
   unfolding entry

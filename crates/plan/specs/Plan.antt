@@ -2,9 +2,12 @@
 -- Slices, tasks and jobs are counted from 0. An entry is 0 for an idle slice and i + 1 for task i.
 use mathlib.Core.Path.{_≡_}
 use mathlib.Core.Bool.{Bool, false, _&&_, _||_}
+use mathlib.Core.List.{List}
 use mathlib.Core.Logic.{_⊎_}
 use Prim.Native.Nat.{ℕ, zero, suc, _+_, _-_, _*_, _/_, _%_, _≤_, _<_, min}
 use lib.Dec.{ltb, eqb}
+use lib.ListN.{replicate}
+use Rattle.basis.specs.Bytes.{at, overwrite}
 use Rattle.basis.specs.Choose.{choose}
 use Rattle.basis.specs.Sum.{sum}
 use Rattle.basis.specs.Slices.{ceil}
@@ -95,10 +98,16 @@ gets e i = choose (eqb e (suc i)) 1 0
 unfoldable pub idles : ℕ → ℕ
 idles e = choose (eqb e 0) 1 0
 
--- What the current job of each task has had before slice t. At its release a fresh job has had nothing.
+-- What the current job of each task has had before slice t, task by task. At its release a fresh job has had nothing.
+unfoldable pub hadAfter : Plan → Demand → ℕ → List ℕ → List ℕ
+hadAfter P d t h = overwrite (λ i. choose (eqb (age P i (suc t)) 0) 0 (at h i + gets (pick P d t (at h)) i)) (P .count) h
+
+unfoldable pub hadAll : Plan → Demand → ℕ → List ℕ
+hadAll P d zero = replicate (P .count) 0
+hadAll P d (suc t) = hadAfter P d t (hadAll P d t)
+
 unfoldable pub had : Plan → Demand → ℕ → ℕ → ℕ
-had P d zero = λ i. 0
-had P d (suc t) = λ i. choose (eqb (age P i (suc t)) 0) 0 (had P d t i + gets (pick P d t (had P d t)) i)
+had P d t = at (hadAll P d t)
 
 -- The entry of slice t.
 unfoldable pub entry : Plan → Demand → ℕ → ℕ

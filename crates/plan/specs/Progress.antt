@@ -24,7 +24,7 @@ module _ (P : Plan) (S : Sound P) (d : Demand) (i : ℕ) (li : i < P .count) whe
   unfolding release
   next-release k = omega arith
 
-  releases-grow : (k m : ℕ) → k < m → release P i k + P .period i ≤ release P i m
+  pub releases-grow : (k m : ℕ) → k < m → release P i k + P .period i ≤ release P i m
   unfolding release
   releases-grow k m l = omega (arith, mul-le-mul-right (P .period i) l)
 

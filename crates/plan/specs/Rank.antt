@@ -15,7 +15,7 @@ unfoldable pub rank : ℕ → (ℕ → ℕ) → ℕ → ℕ
 rank n key i = key i * n + i
 
 module _ (key : ℕ → ℕ) where
-  smaller-key-first : (i j : ℕ) → key i < key j → ranksBefore key i j ≡ true
+  pub smaller-key-first : (i j : ℕ) → key i < key j → ranksBefore key i j ≡ true
   unfolding ranksBefore
   smaller-key-first i j l = rw (lt-ltb (key i) (key j) l)
 
@@ -32,6 +32,13 @@ module _ (key : ℕ → ℕ) where
       ⊎-elim
       (λ (e : key i ≡ key j). equal-keys-by-place i j e ∙ le-ltb i j lj)
       (λ (ne : key i ≡ key j → ⊥). larger-key-later i j (omega arith))
+      (eq-or-ne (key i) (key j))
+
+  pub earlier-place-first : (i j : ℕ) → key i ≤ key j → i < j → ranksBefore key i j ≡ true
+  earlier-place-first i j l lj =
+      ⊎-elim
+      (λ (e : key i ≡ key j). equal-keys-by-place i j e ∙ lt-ltb i j lj)
+      (λ (ne : key i ≡ key j → ⊥). smaller-key-first i j (omega arith))
       (eq-or-ne (key i) (key j))
 
   pub not-before-key : (i j : ℕ) → ranksBefore key i j ≡ false → key j ≤ key i

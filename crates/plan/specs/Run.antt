@@ -5,11 +5,13 @@ use Prim.Native.Nat.{ℕ, zero, suc, _+_, _-_, _≤_, _<_}
 use native.Mathlib.Omega.{arith}
 use native.Mathlib.Nat.{mod-lt, zero-mod, div-add-mod'}
 use lib.Dec.{ltb, eqb}
+use lib.ListN.{length, replicate, length-replicate, getD-replicate, List·getD-eq-default}
 use borrow.Author.Tests.{lt-ltb, le-ltb, eq-eqb, ne-eqb}
-use Rattle.basis.specs.Choose.{choose-yes, choose-no, le-or-lt, eq-or-ne}
+use Rattle.basis.specs.Bytes.{overwrite-length, overwrite-at}
+use Rattle.basis.specs.Choose.{choose, choose-yes, choose-no, le-or-lt, eq-or-ne}
 use Rattle.basis.specs.Sum.{sum}
 use Rattle.basis.specs.Slices.{div-at, mod-at, div-same, mod-same, div-next, mod-next}
-use Rattle.plan.specs.Plan.{Plan, Sound, Demand, release, job, age, keyIn, wants, pick, gets, had, entry, given, IsFirst}
+use Rattle.plan.specs.Plan.{Plan, Sound, Demand, release, job, age, keyIn, wants, pick, gets, hadAfter, hadAll, had, entry, given, IsFirst}
 use Rattle.plan.specs.Rank.{first-law}
 use Rattle.plan.specs.Work.{gets-cases, got-wants}
 
@@ -92,8 +94,12 @@ module _ (P : Plan) (d : Demand) (i : ℕ) where
   given-more s m = refl
 
   pub had-first : had P d 0 i ≡ 0
-  unfolding had
-  had-first = refl
+  unfolding had hadAll
+  had-first =
+      ⊎-elim
+      (λ (o : P .count ≤ i). List·getD-eq-default (replicate (P .count) 0) 0 (omega (arith, length-replicate {A = ℕ} (P .count) 0)))
+      (λ (l : i < P .count). getD-replicate (P .count) i 0 0 l)
+      (le-or-lt (P .count) i)
 
   age-first : age P i 0 ≡ 0
   unfolding age
@@ -105,14 +111,22 @@ module _ (P : Plan) (d : Demand) (i : ℕ) where
   one-more t r h = rw (given-more (release P i (job P i t)) (age P i t), r) (omega arith)
 
 -- ---- what is had
+-- there is a number for each task
+had-length : (P : Plan) (d : Demand) (t : ℕ) → length (hadAll P d t) ≡ P .count
+unfolding hadAll hadAfter
+had-length P d zero = length-replicate (P .count) 0
+had-length P d (suc t) = overwrite-length _ (hadAll P d t) (P .count) ∙ had-length P d t
+
+pub had-next : (P : Plan) (d : Demand) (i : ℕ) → i < P .count → (t : ℕ) → had P d (suc t) i ≡ choose (eqb (age P i (suc t)) 0) 0 (had P d t i + gets (entry P d t) i)
+unfolding had hadAll hadAfter entry
+had-next P d i li t = overwrite-at _ (hadAll P d t) 0 (P .count) i li (omega (arith, had-length P d t))
+
 module _ (P : Plan) (S : Sound P) (d : Demand) (i : ℕ) (li : i < P .count) where
   pub had-goes-on : (t : ℕ) → suc (age P i t) < P .period i → had P d (suc t) i ≡ had P d t i + gets (entry P d t) i
-  unfolding had entry
-  had-goes-on t l = choose-no (eqb (age P i (suc t)) 0) 0 (had P d t i + gets (pick P d t (had P d t)) i) (ne-eqb (age P i (suc t)) 0 (λ e. omega (arith, age-goes-on P S i li t l)))
+  had-goes-on t l = had-next P d i li t ∙ choose-no _ _ _ (ne-eqb (age P i (suc t)) 0 (λ e. omega (arith, age-goes-on P S i li t l)))
 
   pub had-anew : (t : ℕ) → suc (age P i t) ≡ P .period i → had P d (suc t) i ≡ 0
-  unfolding had
-  had-anew t e = choose-yes (eqb (age P i (suc t)) 0) 0 (had P d t i + gets (pick P d t (had P d t)) i) (eq-eqb (age P i (suc t)) 0 (age-anew P S i li t e))
+  had-anew t e = had-next P d i li t ∙ choose-yes _ _ _ (eq-eqb (age P i (suc t)) 0 (age-anew P S i li t e))
 
   -- whoever gets a slice has had less than its demand
   pub had-room : (t : ℕ) → entry P d t ≡ suc i → had P d t i < d i (job P i t)
@@ -127,8 +141,7 @@ module _ (P : Plan) (S : Sound P) (d : Demand) (i : ℕ) (li : i < P .count) whe
       (gets-cases (entry P d t) i)
 
   pub had-most : (t : ℕ) → had P d t i ≤ d i (job P i t)
-  unfolding had
-  had-most zero = omega arith
+  had-most zero = omega (arith, had-first P d i)
   had-most (suc t) =
       ⊎-elim
       (λ (l : suc (age P i t) < P .period i). omega (arith, had-goes-on t l, within t (had-most t), ap (d i) (job-goes-on P S i li t l)))

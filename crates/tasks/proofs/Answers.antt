@@ -10,8 +10,8 @@ use Rattle.tasks.specs.declared.Finding.{Finding}
 use Rattle.tasks.specs.declared.Running.{Running}
 use Rattle.tasks.specs.declared.Bounds.the-variants.{Kept, Broken}
 use Rattle.tasks.specs.Bounds.{cycleOf, jobSum, jobsOf, refusal, none, _orElse_, firstFound, ofCount, ofTask, ofMemory, ofCycle, found, answer, boundsOf}
-use Rattle.tasks.specs.Kept.{else-found, else-kept, else-none, AllFit, tasks-none}
-use Rattle.tasks.specs.Shapes.{Follows, multiple-kept}
+use Rattle.tasks.specs.Kept.{else-found, else-kept, AllFit, tasks-none, nothing-found}
+use Rattle.tasks.specs.Shapes.{Finds, Multiplies}
 
 -- a refusal is the answer where it is what is found; where nothing is, cycle and job count are
 refused : (l : TaskList) (supply : ℕ) (f : Finding) → found l supply ≡ f → (f .number ≡ 0 → ⊥) → Broken (f .number) (f .task) ≡ boundsOf l supply
@@ -54,36 +54,38 @@ module _ (l : TaskList) (supply : ℕ) where
     unfolding found
     after-count = else-found (ofCount (l .count)) rest count-kept
 
-    pub task-refused : (f : Finding) → f ≡ firstFound (ofTask (l .tasks)) (l .count) → (f .number ≡ 0 → ⊥) → Broken (f .number) (f .task) ≡ boundsOf l supply
-    task-refused f e n = refused l supply f (after-count ∙ ap (λ (x : Finding). x orElse last) (sym e) ∙ else-kept f last n) n
+    pub task-refused : (f : Finding) → Finds (firstFound (ofTask (l .tasks)) (l .count)) f → (f .number ≡ 0 → ⊥) → Broken (f .number) (f .task) ≡ boundsOf l supply
+    task-refused f F n = refused l supply f (after-count ∙ ap (λ (x : Finding). x orElse last) (F .this n) ∙ else-kept f last n) n
 
     -- ---- that all fit
-    module _ (f : Finding) (ef : f ≡ firstFound (ofTask (l .tasks)) (l .count)) (z : f .number ≡ 0) where
-      fit-number : firstFound (ofTask (l .tasks)) (l .count) .number ≡ 0
-      fit-number = ap (λ (x : Finding). x .number) (sym ef) ∙ z
-
+    module _ (f : Finding) (F : Finds (firstFound (ofTask (l .tasks)) (l .count)) f) (z : f .number ≡ 0) where
       pub all-fit : AllFit l
-      all-fit = record { few = few; fits = tasks-none l supply .0 fit-number }
+      all-fit = record { few = few; fits = tasks-none l supply .0 (F .nothing z) }
 
       after-tasks : found l supply ≡ last
-      after-tasks = after-count ∙ else-found (firstFound (ofTask (l .tasks)) (l .count)) last fit-number
+      after-tasks = after-count ∙ else-found (firstFound (ofTask (l .tasks)) (l .count)) last (F .nothing z)
 
-      module _ (run : Running) (F : Follows (l .tasks) (l .count) run) (m g : Finding) (em : m ≡ firstFound (ofMemory (l .tasks) supply) (l .count)) (eg : g ≡ m orElse run .found) where
-        found-is : found l supply ≡ g
-        found-is = after-tasks ∙ sym (eg ∙ ap₂ _orElse_ em (F .found-so-far))
+      -- ---- with memory enough
+      pub memory-refused : (m : Finding) → Finds (firstFound (ofMemory (l .tasks) supply) (l .count)) m → (m .number ≡ 0 → ⊥) → Broken (m .number) (m .task) ≡ boundsOf l supply
+      memory-refused m M n = refused l supply m (after-tasks ∙ ap (λ (x : Finding). x orElse firstFound (ofCycle (l .tasks)) (l .count)) (M .this n) ∙ else-kept m _ n) n
 
-        pub rest-refused : (g .number ≡ 0 → ⊥) → Broken (g .number) (g .task) ≡ boundsOf l supply
-        rest-refused n = refused l supply g found-is n
+      module _ (m : Finding) (M : Finds (firstFound (ofMemory (l .tasks) supply) (l .count)) m) (zm : m .number ≡ 0) (run : Running) (R : Multiplies (l .tasks) (l .count) run) where
+        found-is : found l supply ≡ firstFound (ofCycle (l .tasks)) (l .count)
+        found-is = after-tasks ∙ else-found (firstFound (ofMemory (l .tasks) supply) (l .count)) _ (M .nothing zm)
 
-        module _ (zg : g .number ≡ 0) where
-          cycle-number : run .found .number ≡ 0
-          cycle-number = else-none m (run .found) (ap (λ (x : Finding). x .number) (sym eg) ∙ zg) .1
+        pub cycle-refused : (run .found .number ≡ 0 → ⊥) → Broken (run .found .number) (run .found .task) ≡ boundsOf l supply
+        cycle-refused n = refused l supply (run .found) (found-is ∙ R .over .this n) n
+
+        module _ (none-over : run .found .number ≡ 0) where
+          nothing : found l supply .number ≡ 0
+          nothing = ap (λ (x : Finding). x .number) found-is ∙ R .over .nothing none-over
 
           pub cycle-within : run .multiple ≤ 4096
-          cycle-within = multiple-kept (l .tasks) (l .count) run F (λ i li. all-fit .fits i li .period-from) cycle-number .1
+          unfolding cycleOf
+          cycle-within = omega (arith, R .multiple-is none-over, nothing-found l supply .0 nothing .cycle-within)
 
           pub all-kept : (jobs : ℕ) → jobs ≡ jobSum (l .tasks) (run .multiple) (l .count) → Kept (run .multiple) jobs ≡ boundsOf l supply
           unfolding cycleOf jobsOf
           all-kept jobs ej =
-              let e : run .multiple ≡ cycleOf l = F .multiple-so-far cycle-number in
-              ap₂ Kept e (ej ∙ ap (λ (x : ℕ). jobSum (l .tasks) x (l .count)) e) ∙ kept l supply (ap (λ (x : Finding). x .number) found-is ∙ zg)
+              let e : run .multiple ≡ cycleOf l = R .multiple-is none-over in
+              ap₂ Kept e (ej ∙ ap (λ (x : ℕ). jobSum (l .tasks) x (l .count)) e) ∙ kept l supply nothing

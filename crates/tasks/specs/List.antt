@@ -15,15 +15,26 @@ noTask = record { period = 0; runtime = 0; memory = 0 }
 unfoldable pub taskAt : List Task → ℕ → Task
 taskAt ts i = getD ts i noTask
 
--- Shorter period goes first; of equal periods, the earlier in the list.
+-- The deadline of a task's jobs, counted from the release: the end of the period.
+abbrev pub dueOf : Task → ℕ
+dueOf t = t .period
+
+-- The run-time of its job k: the same for all.
+abbrev pub runtimeOf : Task → ℕ → ℕ
+runtimeOf t k = t .runtime
+
+-- What its job k is ranked by. Shorter period goes first; of equal periods, the earlier in the list.
+abbrev pub keyOf : Task → ℕ → ℕ
+keyOf t k = t .period
+
 unfoldable pub planOf : TaskList → Plan
 planOf l =
     record {
       count = l .count;
       period = λ i. taskAt (l .tasks) i .period;
-      due = λ i. taskAt (l .tasks) i .period;
-      runtime = λ i k. taskAt (l .tasks) i .runtime;
-      key = λ i k. taskAt (l .tasks) i .period;
+      due = λ i. dueOf (taskAt (l .tasks) i);
+      runtime = λ i. runtimeOf (taskAt (l .tasks) i);
+      key = λ i. keyOf (taskAt (l .tasks) i);
     }
 
 -- The list that a run of records makes: the first 16 of them, and a count that says how many there are, more than 16 too.

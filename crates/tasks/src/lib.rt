@@ -1,12 +1,11 @@
 // The task list by value, its cycle by Euclid's rule, and what bounds it: refusals 1 to 6.
 ghost use mathlib.Core.Path.{_≡_};
-ghost use Prim.Native.Nat.{_+_, _≤_, _<_};
+ghost use Prim.Native.Nat.{ℕ, _+_, _≤_, _<_};
+ghost use Rattle.tasks.specs.List.{dueOf, keyOf, runtimeOf};
 ghost use Rattle.tasks.specs.Euclid.{gcdOf, lcmOf};
-ghost use Rattle.tasks.specs.Bounds.{none, refusal, _orElse_, firstFound, outside, ofNumbers, ofTask, ofMemory, jobSum, boundsOf};
-ghost use Rattle.tasks.specs.Shapes.{nextMultiple, Follows};
+ghost use Rattle.tasks.specs.Bounds.{firstFound, outside, ofNumbers, ofTask, ofMemory, jobSum, boundsOf};
+ghost use Rattle.tasks.specs.Shapes.{Finds, Multiplies};
 ghost use Rattle.tasks.specs.Kept.{AllFit};
-ghost use lib.Dec.{ltb};
-ghost use Rattle.basis.specs.Choose.{choose};
 
 // Period and run-time in slices, sample memory in words.
 pub struct Task {
@@ -19,6 +18,27 @@ pub struct Task {
 pub struct TaskList {
     pub tasks: [Task; 16],
     pub count: usize,
+}
+
+// The deadline of a task's jobs, counted from the release.
+pub fn due_of(task: Task) -> u32
+    ensures { λ r. ⌜ r ≡ dueOf task ⌝ }
+{
+    task.period
+}
+
+// What its jobs are ranked by, whichever job k: smaller first.
+pub fn key_of(task: Task) -> u32
+    ensures { λ r. ⌜ ((k : ℕ) → r ≡ keyOf task k) ⌝ }
+{
+    task.period
+}
+
+// The run-time of its jobs, whichever job k.
+pub fn runtime_of(task: Task) -> u32
+    ensures { λ r. ⌜ ((k : ℕ) → r ≡ runtimeOf task k) ⌝ }
+{
+    task.runtime
 }
 
 // A refusal by its number, with the task that it names; number 0 where there is none.
@@ -53,12 +73,6 @@ fn is_outside(low: u32, high: u32, x: u32) -> bool
     if x < low { true } else { high < x }
 }
 
-fn or_else(found: Finding, next: Finding) -> Finding
-    ensures { λ r. ⌜ r ≡ found orElse next ⌝ }
-{
-    if found.number == 0 { next } else { found }
-}
-
 fn of_task(period: u32, runtime: u32, task: usize) -> Finding
     ensures { λ r. ⌜ r ≡ ofNumbers period runtime task ⌝ }
 {
@@ -71,21 +85,22 @@ fn of_task(period: u32, runtime: u32, task: usize) -> Finding
     Finding { number: 0, task: 0 }
 }
 
+// The first task that is refused by 3 or 4.
 fn of_tasks(list: TaskList) -> Finding
     requires { ⌜ list .count ≤ 16 ⌝ }
-    ensures { λ r. ⌜ r ≡ firstFound (ofTask (list .tasks)) (list .count) ⌝ }
+    ensures { λ r. ⌜ Finds (firstFound (ofTask (list .tasks)) (list .count)) r ⌝ }
 {
     let tasks = list.tasks;
-    let count = list.count;
-    let mut found = Finding { number: 0, task: 0 };
     let mut i = 0;
-    while i < count {
+    while i < list.count {
         let t = tasks[i];
-        let next = or_else(found, of_task(t.period, t.runtime, i + 1));
-        found = next;
+        let found = of_task(t.period, t.runtime, i + 1);
+        if found.number != 0 {
+            return found;
+        }
         i += 1;
     }
-    found
+    Finding { number: 0, task: 0 }
 }
 
 fn wide(x: u32) -> u64
@@ -94,77 +109,61 @@ fn wide(x: u32) -> u64
     x as u64
 }
 
-fn over_supply(sum: u64, supply: u32, task: usize) -> Finding
-    ensures { λ r. ⌜ r ≡ choose (ltb supply sum) (refusal 5 task) none ⌝ }
-{
-    if (supply as u64) < sum {
-        Finding { number: 5, task }
-    } else {
-        Finding { number: 0, task: 0 }
-    }
-}
-
+// The first task at which the memory exceeds the supply.
 fn of_memory(list: TaskList, supply: u32) -> Finding
     requires { ⌜ list .count ≤ 16 ⌝ }
-    ensures { λ r. ⌜ r ≡ firstFound (ofMemory (list .tasks) supply) (list .count) ⌝ }
+    ensures { λ r. ⌜ Finds (firstFound (ofMemory (list .tasks) supply) (list .count)) r ⌝ }
 {
     let tasks = list.tasks;
-    let count = list.count;
+    let most = wide(supply);
     let mut sum: u64 = 0;
-    let mut found = Finding { number: 0, task: 0 };
     let mut i = 0;
-    while i < count {
+    while i < list.count {
         let t = tasks[i];
         sum += wide(t.memory);
-        let next = or_else(found, over_supply(sum, supply, i + 1));
-        found = next;
+        if most < sum {
+            return Finding {
+                number: 5,
+                task: i + 1,
+            };
+        }
         i += 1;
     }
-    found
+    Finding { number: 0, task: 0 }
 }
 
-// The running multiple, which stays as it is once a task has taken it above 4,096.
+// The multiple of the periods, and the first task that takes it above 4,096.
 struct Running {
     multiple: u32,
     found: Finding,
 }
 
-fn next_multiple(run: Running, period: u32, task: usize) -> Running
-    requires { ⌜ (run .found .number ≡ 0 → (0 < run .multiple) × (run .multiple ≤ 4096)) × (period ≤ 4096) ⌝ }
-    ensures { λ r. ⌜ r ≡ nextMultiple run period task ⌝ }
-{
-    let found = run.found;
-    if found.number != 0 {
-        return run;
-    }
-    let multiple = lcm(run.multiple, period);
-    if 4096 < multiple {
-        return Running {
-            multiple: run.multiple,
-            found: Finding { number: 6, task },
-        };
-    }
-    Running { multiple, found }
-}
-
 fn of_cycle(list: TaskList) -> Running
     requires { ⌜ AllFit list ⌝ }
-    ensures { λ r. ⌜ Follows (list .tasks) (list .count) r ⌝ }
+    ensures { λ r. ⌜ Multiplies (list .tasks) (list .count) r ⌝ }
 {
     let tasks = list.tasks;
-    let count = list.count;
-    let mut run = Running {
-        multiple: 1,
-        found: Finding { number: 0, task: 0 },
-    };
+    let mut multiple: u32 = 1;
     let mut i = 0;
-    while i < count {
+    while i < list.count {
         let t = tasks[i];
-        let next = next_multiple(run, t.period, i + 1);
-        run = next;
+        let next = lcm(multiple, t.period);
+        if 4096 < next {
+            return Running {
+                multiple,
+                found: Finding {
+                    number: 6,
+                    task: i + 1,
+                },
+            };
+        }
+        multiple = next;
         i += 1;
     }
-    run
+    Running {
+        multiple,
+        found: Finding { number: 0, task: 0 },
+    }
 }
 
 fn count_jobs(list: TaskList, cycle: u32) -> u32
@@ -183,6 +182,15 @@ fn count_jobs(list: TaskList, cycle: u32) -> u32
     jobs
 }
 
+fn broken(found: Finding) -> Bounds
+    ensures { λ r. ⌜ r ≡ Bounds.Broken (found .number) (found .task) ⌝ }
+{
+    Bounds::Broken {
+        number: found.number,
+        task: found.task,
+    }
+}
+
 // Refusals 1 to 6, or the cycle and the job count.
 pub fn check_bounds(list: TaskList, supply: u32) -> Bounds
     ensures { λ r. ⌜ r ≡ boundsOf list supply ⌝ }
@@ -195,18 +203,16 @@ pub fn check_bounds(list: TaskList, supply: u32) -> Bounds
     }
     let fit = of_tasks(list);
     if fit.number != 0 {
-        return Bounds::Broken {
-            number: fit.number,
-            task: fit.task,
-        };
+        return broken(fit);
+    }
+    let short = of_memory(list, supply);
+    if short.number != 0 {
+        return broken(short);
     }
     let run = of_cycle(list);
-    let found = or_else(of_memory(list, supply), run.found);
-    if found.number != 0 {
-        return Bounds::Broken {
-            number: found.number,
-            task: found.task,
-        };
+    let over = run.found;
+    if over.number != 0 {
+        return broken(over);
     }
     Bounds::Kept {
         cycle: run.multiple,

@@ -1,65 +1,109 @@
 -- What judging and building answer at each way out, as laws over plain values.
 use mathlib.Core.Path.{_≡_, refl, sym, ap, ap₂, _∙_}
 use mathlib.Core.List.{List}
+use mathlib.Core.Logic.{⊎-elim}
 use Prim.Native.Nat.{ℕ, suc, _+_, _-_, _≤_, _<_}
 use native.Mathlib.Omega.{arith}
 use native.Mathlib.Numerals.{add-one}
 use lib.IntN.{ℤ, pos, subℕ}
-use lib.ListN.{length, set}
+use lib.ListN.{length}
 use borrow.Author.Tests.{eq-eqb, ne-eqb, lt-ltb, le-ltb}
-use Rattle.basis.specs.Choose.{choose-yes, choose-no}
-use Rattle.basis.specs.Bytes.{overwrite, overwrite-length}
-use Rattle.plan.specs.Plan.{table}
-use Rattle.plan.specs.Counting.{entry-within}
+use Rattle.basis.specs.Bytes.{at, overwrite}
+use Rattle.basis.specs.Choose.{choose-yes, choose-no, le-or-lt}
+use Rattle.plan.specs.Plan.{Plan, Sound, release, deadline, keyIn, table, OnTime, OnTimeUpTo}
+use Rattle.plan.specs.Order.{behind-not-before}
 use Rattle.tasks.specs.declared.TaskList.{TaskList}
 use Rattle.tasks.specs.declared.Bounds.the-variants.{Kept, Broken}
 use Rattle.tasks.specs.List.{planOf}
 use Rattle.tasks.specs.Bounds.{boundsOf, cycleOf}
-use Rattle.verdict.specs.declared.Sim.{Sim}
+use Rattle.tasks.specs.Kept.{kept-tells, plan-monotonic, period-within-cycle}
 use Rattle.verdict.specs.declared.Late.{Late}
 use Rattle.verdict.specs.declared.Verdict.{Verdict}
 use Rattle.verdict.specs.declared.Verdict.the-variants.{Accepted, Refused}
 use Rattle.verdict.specs.Lateness.{lateness}
-use Rattle.verdict.specs.Verdict.{verdictFrom, verdictOf}
+use Rattle.verdict.specs.Margin.{margin, tightest}
+use Rattle.verdict.specs.Verdict.{judged, verdictFrom, verdictOf}
 use Rattle.verdict.specs.Table.{fitted, tabled, Built}
-use Rattle.verdict.specs.Deadlines.{late-tells, missed-lacks, missing-is}
+use Rattle.verdict.specs.Deadlines.{nothing-late, late-tells, missed-lacks, missing-is}
+use Rattle.verdict.specs.Ends.{end-is-first, end-within}
+use Rattle.verdict.specs.Tightest.{Tightest, tightest-law, tightest-only, not-tighter}
 use Rattle.verdict.specs.Answers.{accepted-tells}
-use Rattle.verdict.specs.Shapes.{Bounded, Within, periodIn, simOf, marginIn, tightestOf, judgedBy, verdictBy}
-use Rattle.verdict.specs.Simulation.{sound, sim-within, late-is, entry-is}
-use Rattle.verdict.specs.Judged.{tightest-below, verdict-is}
+use Rattle.verdict.specs.Shapes.{Bounded, marginAt, TightestAt}
+use Rattle.verdict.specs.Walk.{Shows, EndsAre}
 
 -- ---- the verdict of a list that keeps all bounds
-module _ (l : TaskList) (B : Bounded l) (cycle : ℕ) (sim : Sim) (at : sim ≡ simOf l cycle) where
-  pub ends-within : Within l (sim .jobs)
-  ends-within = rw at (sim-within l B cycle)
+module _ (l : TaskList) (B : Bounded l) (cycle : ℕ) (C : cycle ≡ cycleOf l) (order periods dues runtimes ends : List ℕ) (W : Shows (planOf l) order periods dues runtimes) (late : Late)
+    (L : (late ≡ lateness (planOf l) cycle) × (late .task ≡ 0 → EndsAre (planOf l) cycle order ends)) where
+  abbrev P : Plan
+  P = planOf l
 
-  pub short-within : (sim .late .task ≡ 0 → ⊥) → sim .late .short ≤ 4096
+  sound : Sound P
+  sound = plan-monotonic l (B .supply) (B .keeps) .sound
+
+  pub short-within : (late .task ≡ 0 → ⊥) → late .short ≤ 4096
   unfolding planOf
   short-within nz =
-      let same : sim .late ≡ lateness (planOf l) cycle = ap (λ (s : Sim). s .late) at ∙ late-is l B cycle in
-      let task : lateness (planOf l) cycle .task ≡ suc (sim .late .task - 1) = ap (λ (x : Late). x .task) (sym same) ∙ omega arith in
-      let m = late-tells (planOf l) (sound l B) cycle (sim .late .task - 1) task in
-      let lacks = missed-lacks (planOf l) (m .slice) (sim .late .task - 1) (m .missed) in
-      let fits = B .keeps .fits (sim .late .task - 1) (lacks .0) in
-      omega (arith, ap (λ (x : Late). x .short) same, m .lacks, missing-is (planOf l) (m .slice) (sim .late .task - 1) (lacks .1) .1, fits .runtime-to, fits .period-to)
+      let task : lateness P cycle .task ≡ suc (late .task - 1) = ap (λ (x : Late). x .task) (sym (L .0)) ∙ omega arith in
+      let m = late-tells P sound cycle (late .task - 1) task in
+      let lacks = missed-lacks P (m .slice) (late .task - 1) (m .missed) in
+      let fits = B .keeps .fits (late .task - 1) (lacks .0) in
+      omega (arith, ap (λ (x : Late). x .short) (L .0), m .lacks, missing-is P (m .slice) (late .task - 1) (lacks .1) .1, fits .runtime-to, fits .period-to)
 
-  pub judged-late : (jobs : ℕ) (z : ℤ) → (sim .late .task ≡ 0 → ⊥) → z ≡ subℕ 0 (sim .late .short) → Refused 7 (sim .late .task) z ≡ judgedBy l cycle jobs (simOf l cycle)
-  unfolding judgedBy
-  judged-late jobs z nz q = rw (← at, q) (sym (choose-no _ _ _ (ne-eqb (sim .late .task) 0 nz)))
+  pub judged-late : (jobs : ℕ) (z : ℤ) → (late .task ≡ 0 → ⊥) → z ≡ subℕ 0 (late .short) → Refused 7 (late .task) z ≡ judged P cycle jobs (lateness P cycle)
+  unfolding judged
+  judged-late jobs z nz q = rw (← L .0, q) (sym (choose-no _ _ _ (ne-eqb (late .task) 0 nz)))
 
-  module _ (b : ℕ) (qb : b ≡ tightestOf l (sim .jobs)) where
-    pub best-below : b < l .count
-    unfolding tightestOf
-    best-below = omega (arith, tightest-below (marginIn l (sim .jobs)) (periodIn l) (l .count) (B .keeps .some))
+  module _ (none : late .task ≡ 0) where
+    below : (k : ℕ) → k < P .count → at order k < P .count
+    below = W .ranked 0 .below
 
-    pub margin-within : (m : ℕ) → m ≡ marginIn l (sim .jobs) b → m ≤ 4096
-    unfolding marginIn periodIn
-    margin-within m q = omega (arith, B .keeps .fits b best-below .period-to)
+    due-in-cycle : (i : ℕ) → i < P .count → P .due i ≤ cycle
+    unfolding planOf
+    due-in-cycle i li = omega (arith, C, period-within-cycle l (B .supply) (B .keeps) i li)
 
-    pub judged-accepted : (jobs m : ℕ) (z : ℤ) → sim .late .task ≡ 0 → m ≡ marginIn l (sim .jobs) b → z ≡ pos m → Accepted cycle jobs (b + 1) z ≡ judgedBy l cycle jobs (simOf l cycle)
-    unfolding judgedBy
-    judged-accepted jobs m z e q qz =
-        rw (← at, add-one, qz, q, qb) (sym (choose-yes _ _ _ (eq-eqb (sim .late .task) 0 e)))
+    pub ends-by-dues : (k : ℕ) → k < P .count → at ends k ≤ at dues k
+    ends-by-dues k lk = omega (arith, L .1 none .end-is k lk, end-within P (at order k) cycle, W .due-is k lk)
+
+    first-on-time : (i : ℕ) → i < P .count → OnTime P (P .runtime) i 0
+    unfolding OnTimeUpTo deadline release
+    first-on-time i li = nothing-late P sound cycle .0 (ap (λ (x : Late). x .task) (sym (L .0)) ∙ none) i 0 li (omega (arith, due-in-cycle i li))
+
+    margin-is : (k : ℕ) → k < P .count → marginAt dues ends k ≡ margin P (at order k)
+    unfolding marginAt margin
+    margin-is k lk =
+        ap₂ (λ (x y : ℕ). x - y) (W .due-is k lk)
+        (L .1 none .end-is k lk ∙ end-is-first P sound (at order k) cycle (below k lk) (first-on-time (at order k) (below k lk)) (due-in-cycle (at order k) (below k lk)))
+
+    module _ (best : ℕ) (T : TightestAt (marginAt dues ends) (P .count) best) where
+      -- the first place with the smallest margin is the tightest task's
+      is-tightest : Tightest P (P .count) (at order best)
+      is-tightest = record {
+        is-below = below best (T .below);
+        none-tighter = λ j lj.
+            let p = W .ranked 0 .places j lj in
+            let mine = margin-is best (T .below) in
+            let other : marginAt dues ends (p .place) ≡ margin P j = margin-is (p .place) (p .below) ∙ ap (margin P) (p .is) in
+            not-tighter P j (at order best) (omega (arith, T .smallest (p .place) (p .below)))
+            (λ same. rw (← p .is) (behind-not-before (keyIn P 0) (P .count) order (W .ranked 0) best (p .place) (not-earlier (p .place) (omega arith)) (p .below)));
+      }
+        where
+          not-earlier : (k : ℕ) → marginAt dues ends best ≡ marginAt dues ends k → best ≤ k
+          not-earlier k same = ⊎-elim (λ (a : best ≤ k). a) (λ (b : k < best). absurd (omega (arith, T .first k b))) (le-or-lt best k)
+
+      best-is : at order best ≡ tightest P (P .count)
+      unfolding planOf
+      best-is = tightest-only P (at order best) (tightest P (P .count)) is-tightest (tightest-law P (P .count) (B .keeps .some) (omega arith))
+
+      pub margin-within : at dues best - at ends best ≤ 4096
+      unfolding planOf
+      margin-within = omega (arith, W .due-is best (T .below), B .keeps .fits (at order best) (below best (T .below)) .period-to)
+
+      pub judged-accepted : (jobs : ℕ) (z : ℤ) → z ≡ pos (at dues best - at ends best) → Accepted cycle jobs (at order best + 1) z ≡ judged P cycle jobs (lateness P cycle)
+      unfolding judged marginAt
+      judged-accepted jobs z q =
+          rw (← L .0, add-one, q)
+          (ap₂ (λ (i m : ℕ). Accepted cycle jobs (suc i) (pos m)) best-is (margin-is best (T .below) ∙ ap (margin P) best-is)
+          ∙ sym (choose-yes _ _ _ (eq-eqb (late .task) 0 none)))
 
 -- ---- the verdict
 module _ (l : TaskList) (supply : ℕ) where
@@ -67,32 +111,23 @@ module _ (l : TaskList) (supply : ℕ) where
   unfolding verdictOf verdictFrom
   judge-broken number task e = sym (ap (verdictFrom l) e)
 
-  pub judge-kept : (cycle jobs : ℕ) (r : Verdict) → boundsOf l supply ≡ Kept cycle jobs → r ≡ judgedBy l cycle jobs (simOf l cycle) → r ≡ verdictOf l supply
-  unfolding verdictBy
-  judge-kept cycle jobs r e q = q ∙ sym (verdict-is l supply ∙ ap (verdictBy l) e)
+  pub judge-kept : (cycle jobs : ℕ) (r : Verdict) → boundsOf l supply ≡ Kept cycle jobs → r ≡ judged (planOf l) cycle jobs (lateness (planOf l) cycle) → r ≡ verdictOf l supply
+  unfolding verdictOf verdictFrom
+  judge-kept cycle jobs r e q = q ∙ sym (ap (verdictFrom l) e)
 
-  pub accepted-bounded : (cycle jobs task : ℕ) (m : ℤ) → verdictOf l supply ≡ Accepted cycle jobs task m → Bounded l × (cycle ≡ cycleOf l)
+  -- A list whose bounds are kept is as the private contracts ask,
+  pub kept-bounded : (cycle jobs : ℕ) → boundsOf l supply ≡ Kept cycle jobs → Bounded l × (cycle ≡ cycleOf l)
+  kept-bounded cycle jobs e = let k = kept-tells l supply cycle jobs e in (record { supply = supply; keeps = k .keeps }, k .cycle-is)
+
+  -- and on an accepted one nothing is late.
+  pub accepted-bounded : (cycle jobs task : ℕ) (m : ℤ) → verdictOf l supply ≡ Accepted cycle jobs task m → Bounded l × (cycle ≡ cycleOf l) × (lateness (planOf l) cycle .task ≡ 0)
   accepted-bounded cycle jobs task m e =
       let k = accepted-tells l supply cycle jobs task m e in
       let same = k .is in
-      (record { supply = supply; keeps = k .keeps }, cc)
+      let c : cycle ≡ cycleOf l = cc in
+      (record { supply = supply; keeps = k .keeps }, c, rw c (nothing-late (planOf l) (plan-monotonic l supply (k .keeps) .sound) (cycleOf l) .1 (k .on-time)))
 
 -- ---- the table
-module _ (l : TaskList) (B : Bounded l) (t : ℕ) (next : Sim) (at : next ≡ simOf l (t + 1)) where
-  entry-at : next .entry ≡ table (planOf l) t
-  entry-at = ap (λ (s : Sim). s .entry) (rw add-one at at) ∙ entry-is l B t
-
-  pub entry-small : next .entry ≤ 16
-  unfolding table planOf
-  entry-small = omega (arith, entry-at, entry-within (planOf l) (planOf l .runtime) t, B .keeps .few)
-
-  pub one-more-entry : (old now : List ℕ) → now ≡ overwrite (table (planOf l)) t old → set now t (next .entry) ≡ overwrite (table (planOf l)) (t + 1) old
-  unfolding overwrite
-  one-more-entry old now q = rw add-one (ap₂ (λ (bs : List ℕ) (b : ℕ). set bs t b) q entry-at)
-
-pub as-long : (f : ℕ → ℕ) (t : ℕ) (old now : List ℕ) → now ≡ overwrite f t old → length now ≡ length old
-as-long f t old now q = ap length q ∙ overwrite-length f old t
-
 module _ (l : TaskList) (supply : ℕ) (old : List ℕ) (v : Verdict) (is : v ≡ verdictOf l supply) where
   pub built-refused : (number task : ℕ) (m : ℤ) → v ≡ Refused number task m → Built l supply old old v
   unfolding fitted tabled

@@ -1,4 +1,7 @@
 -- Laws that the proofs of several functions cite.
-pub mod Steps
+pub mod Ranking
+pub mod Handing
+pub mod Turning
+pub mod Cycle
 pub mod Signed
 pub mod Answers

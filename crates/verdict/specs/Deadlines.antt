@@ -1,9 +1,9 @@
 -- Laws of lateness: none is found exactly if every job is on time, and what is told by one that is found.
 use mathlib.Core.Path.{_≡_, refl, sym, ap, _∙_}
 use mathlib.Core.Logic.{⊎-elim, _↔_}
-use Prim.Native.Nat.{ℕ, zero, suc, _+_, _-_, _<_}
+use Prim.Native.Nat.{ℕ, zero, suc, _+_, _-_, _≤_, _<_}
 use native.Mathlib.Omega.{arith}
-use native.Mathlib.Nat.{suc-inj}
+use native.Mathlib.Nat.{suc-inj, add-suc}
 use borrow.Author.Tests.{eq-eqb, ne-eqb}
 use Rattle.basis.specs.Choose.{choose-yes, choose-no, eq-or-ne}
 use Rattle.plan.specs.Plan.{Plan, Sound, release, deadline, job, age, keyIn, IsFirst, NoneWants, FirstTask, given, table, HadBy, OnTime, OnTimeUpTo}
@@ -175,4 +175,40 @@ module _ (P : Plan) (S : Sound P) where
         lacks = ap (λ (x : Late). x .short) same ∙ k .lacks;
         lacking = omega (arith, ap (λ (x : Late). x .short) same, k .lacking);
       })
+      (eq-or-ne (lateness P t .task) 0)
+
+-- ---- once something is late, it stays so
+module _ (P : Plan) where
+  late-next : (n : ℕ) (x : Late) → (x .task ≡ 0 → ⊥) → lateness P n ≡ x → lateness P (suc n) ≡ x
+  unfolding lateness
+  late-next n x nz e = ap (λ (y : Late). earlier y (lateBy (missing P n) (missedAt P n))) e ∙ earlier-first _ _ nz
+
+  pub late-stays : (t n : ℕ) → (lateness P t .task ≡ 0 → ⊥) → lateness P (t + n) ≡ lateness P t
+  late-stays t zero nz = ap (lateness P) (omega arith)
+  late-stays t (suc n) nz = ap (lateness P) (add-suc t n) ∙ late-next (t + n) (lateness P t) nz (late-stays t n nz)
+
+  pub none-before : (t n : ℕ) → t ≤ n → lateness P n .task ≡ 0 → lateness P t .task ≡ 0
+  none-before t n le z =
+      ⊎-elim
+      (λ (y : lateness P t .task ≡ 0). y)
+      (λ (nz : lateness P t .task ≡ 0 → ⊥).
+      let e : n ≡ t + (n - t) = omega arith in
+      absurd (nz (ap (λ (x : Late). x .task) (sym (late-stays t (n - t) nz) ∙ sym (ap (lateness P) e)) ∙ z)))
+      (eq-or-ne (lateness P t .task) 0)
+
+  -- without a task there is nothing lacking
+  nobody : (f : ℕ → ℕ) (e : ℕ) → e ≡ 0 → lateBy f e .short ≡ 0
+  unfolding lateBy
+  nobody f zero z = refl
+  nobody f (suc i) z = absurd (omega arith)
+
+  pub none-short : (t : ℕ) → lateness P t .task ≡ 0 → lateness P t .short ≡ 0
+  unfolding lateness
+  none-short zero z = refl
+  none-short (suc t) z =
+      ⊎-elim
+      (λ (y : lateness P t .task ≡ 0).
+      let s = earlier-second (lateness P t) (lateBy (missing P t) (missedAt P t)) y in
+      ap (λ (x : Late). x .short) s ∙ nobody _ (missedAt P t) (sym (late-task (missing P t) (missedAt P t)) ∙ sym (ap (λ (x : Late). x .task) s) ∙ z))
+      (λ (nz : lateness P t .task ≡ 0 → ⊥). absurd (nz (sym (ap (λ (x : Late). x .task) (earlier-first (lateness P t) (lateBy (missing P t) (missedAt P t)) nz)) ∙ z)))
       (eq-or-ne (lateness P t .task) 0)

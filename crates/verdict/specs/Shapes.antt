@@ -1,115 +1,134 @@
--- Shaped like the code, for private contracts alone: the slice rule run over a list, slice by slice. Simulation ties it to the plan's definitions.
-use mathlib.Core.Bool.{Bool, true, false, _||_, _&&_}
+-- Shaped like the code, for private contracts alone: what the loops over arrays of numbers come to. Place k of an array belongs to
+-- the k-th task by rank. Walk ties them to the plan.
+use mathlib.Core.Path.{_≡_}
+use mathlib.Core.Bool.{_&&_}
 use mathlib.Core.List.{List}
-use Prim.Native.Nat.{ℕ, zero, suc, _-_, _%_, _≤_, _<_}
+use mathlib.Core.Logic.{_⊎_}
+use Prim.Native.Nat.{ℕ, suc, _+_, _-_, _≤_, _<_, min}
 use lib.Dec.{ltb, eqb}
-use lib.IntN.{pos, subℕ}
-use lib.ListN.{getD, set, replicate}
+use lib.ListN.{length, set}
+use Rattle.basis.specs.Bytes.{at, overwrite}
 use Rattle.basis.specs.Choose.{choose}
-use Rattle.basis.specs.Bytes.{overwrite}
-use Rattle.plan.specs.Plan.{first, ranksBefore}
+use Rattle.basis.specs.Sum.{sum}
+use Rattle.plan.specs.Order.{NoPlace, FirstPlace}
+use Rattle.plan.specs.Events.{left, GoesTo}
 use Rattle.tasks.specs.declared.TaskList.{TaskList}
-use Rattle.tasks.specs.declared.Bounds.{Bounds}
-use Rattle.tasks.specs.declared.Bounds.the-variants.{Kept, Broken}
-use Rattle.tasks.specs.List.{taskAt}
 use Rattle.tasks.specs.Kept.{KeepsBounds}
-use Rattle.verdict.specs.declared.Job.{Job}
-use Rattle.verdict.specs.declared.Sim.{Sim}
 use Rattle.verdict.specs.declared.Late.{Late}
-use Rattle.verdict.specs.declared.Verdict.{Verdict}
-use Rattle.verdict.specs.declared.Verdict.the-variants.{Accepted, Refused}
-use Rattle.verdict.specs.Lateness.{lateBy, earlier}
+use Rattle.verdict.specs.declared.walk.Turned.{Turned}
 
 -- The list keeps all bounds, of memory with some supply.
 pub record Bounded (l : TaskList) : Type 0 where
   pub supply : ℕ
   pub keeps : KeepsBounds l supply
 
-unfoldable pub noJob : Job
-noJob = record { had = 0; end = 0 }
+-- the arrays have sixteen places
+pub record Room (order periods dues runtimes : List ℕ) : Type 0 where
+  pub order-room : 16 ≤ length order
+  pub periods-room : 16 ≤ length periods
+  pub dues-room : 16 ≤ length dues
+  pub runtimes-room : 16 ≤ length runtimes
 
-unfoldable pub jobAt : List Job → ℕ → Job
-jobAt jobs i = getD jobs i noJob
+-- ---- a turn
+-- It begins at slice `from` and ends at slice r, where the task has what it lacks or the next event is.
+pub record HandedOne (dues lacks ends : List ℕ) (k t from next : ℕ) (lacks′ ends′ : List ℕ) (r : ℕ) : Type 0 where
+  pub to-is : r ≡ from + min (at lacks k) (next - from)
+  pub lacks-are : lacks′ ≡ set lacks k (at lacks k - min (at lacks k) (next - from))
+  pub ends-are : ends′ ≡ set ends k (choose (ltb t (at dues k) && ltb from r) r (at ends k))
 
--- No job has had more than its run-time, and no end is after the period.
-pub record Within (l : TaskList) (jobs : List Job) : Type 0 where
-  pub had-to : (i : ℕ) → i < l .count → jobAt jobs i .had ≤ taskAt (l .tasks) i .runtime
-  pub end-to : (i : ℕ) → i < l .count → jobAt jobs i .end ≤ taskAt (l .tasks) i .period
+-- ---- m slices handed out from slice t on
+-- The turn of the task at place k ends after so many of them.
+unfoldable pub until : (ℕ → ℕ) → ℕ → ℕ → ℕ
+until lack k m = min m (sum lack (suc k))
 
--- ---- which task
--- slice t is the last of a job
-unfoldable pub closes : ℕ → ℕ → Bool
-closes period t = eqb (suc (t % period)) period
+-- The end of its first job so far: where it is in its first job and gets some of the slices, the end of its turn.
+unfoldable pub endAfter : List ℕ → List ℕ → List ℕ → ℕ → ℕ → ℕ → ℕ
+endAfter dues lacks ends t m k = choose (ltb t (at dues k) && ltb (sum (at lacks) k) (until (at lacks) k m)) (t + until (at lacks) k m) (at ends k)
 
-unfoldable pub periodIn : TaskList → ℕ → ℕ
-periodIn l i = taskAt (l .tasks) i .period
+pub record HandedOut (dues lacks ends : List ℕ) (n t m : ℕ) (lacks′ ends′ : List ℕ) : Type 0 where
+  pub lacks-are : lacks′ ≡ overwrite (λ k. left (at lacks) k m) n lacks
+  pub ends-are : ends′ ≡ overwrite (endAfter dues lacks ends t m) n ends
 
--- what the job of task i lacks of its run-time; if only deadlines at the end of slice t count, 0 for the others
-unfoldable pub openIn : TaskList → List Job → ℕ → ℕ
-openIn l jobs i = taskAt (l .tasks) i .runtime - jobAt jobs i .had
+-- Bytes from a to b, b not included, hold one entry, and the others are as they were.
+pub record Filled (table : List ℕ) (a b entry : ℕ) (table′ : List ℕ) : Type 0 where
+  pub long : length table′ ≡ length table
+  pub filled : (x : ℕ) → a ≤ x → x < b → at table′ x ≡ entry
+  pub elsewhere : (x : ℕ) → (x < a) ⊎ (b ≤ x) → at table′ x ≡ at table x
 
-unfoldable pub lackIn : TaskList → List Job → Bool → ℕ → ℕ → ℕ
-lackIn l jobs closing t i = choose closing (choose (closes (periodIn l i) t) (openIn l jobs i) 0) (openIn l jobs i)
+-- The entries of these slices.
+pub record WrittenOut (order lacks table : List ℕ) (n t m : ℕ) (table′ : List ℕ) : Type 0 where
+  pub long : length table′ ≡ length table
+  pub entries : (s : ℕ) → s < m → GoesTo order (at lacks) n s (at table′ (t + s))
+  pub elsewhere : (x : ℕ) → (x < t) ⊎ (t + m ≤ x) → at table′ x ≡ at table x
 
-unfoldable pub scanOf : TaskList → List Job → Bool → ℕ → ℕ
-scanOf l jobs closing t = first (periodIn l) (lackIn l jobs closing t) (l .count)
+-- ---- what happens at slice t to a task with its next event at `event`
+-- its numbers are small
+pub record Fits (period due release event t : ℕ) : Type 0 where
+  pub event-some : 0 < event
+  pub release-small : release + period ≤ 8192
+  pub due-small : t + due ≤ 8192
+  pub due-some : 0 < due
 
--- ---- one slice
-unfoldable pub gotOf : ℕ → ℕ → Job → Job
-gotOf period t job = record { had = suc (job .had); end = choose (ltb t period) (suc t) (job .end) }
+-- what its job misses, if the event is there
+unfoldable pub missingOf : ℕ → ℕ → ℕ → ℕ
+missingOf event lack t = choose (eqb event t) lack 0
 
-unfoldable pub giveOf : TaskList → List Job → ℕ → ℕ → List Job
-giveOf l jobs t zero = jobs
-giveOf l jobs t (suc i) = set jobs i (gotOf (periodIn l i) t (jobAt jobs i))
+-- Its deadline passed, it waits for its release; at its release, a fresh job begins.
+unfoldable pub turned : {A : Type 0} → ℕ → ℕ → ℕ → A → A → A → A
+turned next event t stays waits begins = choose (eqb event t) (choose (ltb t next) waits begins) stays
 
-unfoldable pub turnedOf : ℕ → ℕ → Job → Job
-turnedOf period t job = record { had = choose (closes period t) 0 (job .had); end = job .end }
+-- the same of the task at place k
+module _ (periods dues runtimes releases events lacks : List ℕ) (t k : ℕ) where
+  unfoldable pub eventThen : ℕ
+  eventThen = turned (at releases k + at periods k) (at events k) t (at events k) (at releases k + at periods k) (t + at dues k)
 
-unfoldable pub turnOf : TaskList → List Job → ℕ → List Job
-turnOf l jobs t = overwrite (λ i. turnedOf (periodIn l i) t (jobAt jobs i)) (l .count) jobs
+  unfoldable pub releaseThen : ℕ
+  releaseThen = turned (at releases k + at periods k) (at events k) t (at releases k) (at releases k) t
 
-unfoldable pub missedOf : TaskList → List Job → ℕ → Late
-missedOf l jobs t = lateBy (lackIn l jobs true t) (scanOf l jobs true t)
+  unfoldable pub lackThen : ℕ
+  lackThen = turned (at releases k + at periods k) (at events k) t (at lacks k) (at lacks k) (at runtimes k)
 
--- the jobs after slice t
-unfoldable pub afterOf : TaskList → List Job → ℕ → List Job
-afterOf l jobs t = giveOf l jobs t (scanOf l jobs false t)
+  -- The answer is the task's next event, or 0 where it misses its deadline.
+  pub record TurnedOne (releases′ events′ lacks′ : List ℕ) (event : ℕ) : Type 0 where
+    pub misses : event ≡ 0 → 0 < missingOf (at events k) (at lacks k) t
+    pub keeps : event ≡ 0 → lacks′ ≡ lacks
+    pub misses-none : (event ≡ 0 → ⊥) → missingOf (at events k) (at lacks k) t ≡ 0
+    pub event-is : (event ≡ 0 → ⊥) → event ≡ eventThen
+    pub events-are : (event ≡ 0 → ⊥) → events′ ≡ set events k eventThen
+    pub releases-are : (event ≡ 0 → ⊥) → releases′ ≡ set releases k releaseThen
+    pub lacks-are : (event ≡ 0 → ⊥) → lacks′ ≡ set lacks k lackThen
 
-unfoldable pub closeOf : TaskList → Sim → ℕ → Sim
-closeOf l sim t =
-    record {
-      jobs = turnOf l (afterOf l (sim .jobs) t) t;
-      late = earlier (sim .late) (missedOf l (afterOf l (sim .jobs) t) t);
-      entry = scanOf l (sim .jobs) false t;
-    }
+-- ---- all tasks at slice t
+-- No task misses its deadline there; or the first by rank does.
+pub record NoneLate (missing : ℕ → ℕ) (n : ℕ) (late : Late) : Type 0 where
+  pub none : NoPlace missing n (late .task)
+  pub short-is : late .short ≡ 0
 
-unfoldable pub beginning : Sim
-beginning = record { jobs = replicate 16 noJob; late = record { task = 0; short = 0 }; entry = 0 }
+pub record OneLate (order : List ℕ) (missing : ℕ → ℕ) (n : ℕ) (late : Late) : Type 0 where
+  pub first : FirstPlace order missing n (late .task)
+  pub short-is : late .short ≡ missing (first .place)
 
-unfoldable pub simOf : TaskList → ℕ → Sim
-simOf l zero = beginning
-simOf l (suc t) = closeOf l (simOf l t) t
+unfoldable pub LateIn : List ℕ → (ℕ → ℕ) → ℕ → Late → Type 0
+LateIn order missing n late = NoneLate missing n late ⊎ OneLate order missing n late
+
+-- The next event of all is the least of the tasks' events, and 8,192 at most.
+pub record Earliest (event : ℕ → ℕ) (n next : ℕ) : Type 0 where
+  pub no-later : (k : ℕ) → k < n → next ≤ event k
+  pub greatest : (x : ℕ) → x ≤ 8192 → ((k : ℕ) → k < n → x ≤ event k) → x ≤ next
+
+pub record TurnedAll (order periods dues runtimes releases events lacks : List ℕ) (n t : ℕ) (releases′ events′ lacks′ : List ℕ) (r : Turned) : Type 0 where
+  pub late-is : LateIn order (λ k. missingOf (at events k) (at lacks k) t) n (r .late)
+  pub events-are : r .late .task ≡ 0 → events′ ≡ overwrite (eventThen periods dues runtimes releases events lacks t) n events
+  pub releases-are : r .late .task ≡ 0 → releases′ ≡ overwrite (releaseThen periods dues runtimes releases events lacks t) n releases
+  pub lacks-are : r .late .task ≡ 0 → lacks′ ≡ overwrite (lackThen periods dues runtimes releases events lacks t) n lacks
+  pub next-is : r .late .task ≡ 0 → Earliest (eventThen periods dues runtimes releases events lacks t) n (r .next)
 
 -- ---- the tightest task
-unfoldable pub marginIn : TaskList → List Job → ℕ → ℕ
-marginIn l jobs i = periodIn l i - jobAt jobs i .end
+unfoldable pub marginAt : List ℕ → List ℕ → ℕ → ℕ
+marginAt dues ends k = at dues k - at ends k
 
-unfoldable pub tighterBy : (ℕ → ℕ) → (ℕ → ℕ) → ℕ → ℕ → Bool
-tighterBy margin key i j = ltb (margin i) (margin j) || (eqb (margin i) (margin j) && ranksBefore key i j)
-
-unfoldable pub tightestBy : (ℕ → ℕ) → (ℕ → ℕ) → ℕ → ℕ
-tightestBy margin key zero = 0
-tightestBy margin key (suc n) = choose (eqb n 0 || tighterBy margin key n (tightestBy margin key n)) n (tightestBy margin key n)
-
-unfoldable pub tightestOf : TaskList → List Job → ℕ
-tightestOf l jobs = tightestBy (marginIn l jobs) (periodIn l) (l .count)
-
-unfoldable pub judgedBy : TaskList → ℕ → ℕ → Sim → Verdict
-judgedBy l cycle jobs sim =
-    choose (eqb (sim .late .task) 0)
-    (Accepted cycle jobs (suc (tightestOf l (sim .jobs))) (pos (marginIn l (sim .jobs) (tightestOf l (sim .jobs)))))
-    (Refused 7 (sim .late .task) (subℕ 0 (sim .late .short)))
-
-unfoldable pub verdictBy : TaskList → Bounds → Verdict
-verdictBy l (Broken number task) = Refused number task (pos 0)
-verdictBy l (Kept cycle jobs) = judgedBy l cycle jobs (simOf l cycle)
+-- The first place with the smallest margin.
+pub record TightestAt (margin : ℕ → ℕ) (n best : ℕ) : Type 0 where
+  pub below : best < n
+  pub smallest : (k : ℕ) → k < n → margin best ≤ margin k
+  pub first : (k : ℕ) → k < best → margin best < margin k

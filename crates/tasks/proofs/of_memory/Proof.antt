@@ -1,68 +1,62 @@
--- `tasks::of_memory` meets its contract. The running sum of up to 16 numbers of 32 bits does not wrap in 64.
+-- `tasks::of_memory` meets its contract: up to task i no sum was above the supply, so the next one fits.
 use Prim.Native.Nat.{_≤_, _-_, _*_}
 use mathlib.Core.Path.{_≡_, refl}
 use native.Mathlib.Omega.{arith}
-use Rattle.tasks.proofs.Steps.{one-more-found, one-more-memory, of-memory-at}
-use Rattle.tasks.specs.List.{taskAt, noTask}
-use Rattle.tasks.specs.Bounds.{firstFound, ofMemory, memorySum, none, refusal}
+use native.Mathlib.Numerals.{add-one}
 use Rattle.basis.specs.Sum.{sum as sumOf}
+use Rattle.tasks.proofs.Steps.{nothing-yet, nothing-here, found-here, nothing-at-all, one-more-memory, exceeds, keeps-to}
+use Rattle.tasks.specs.List.{taskAt, noTask}
+use Rattle.tasks.specs.Bounds.{firstFound, ofMemory, memorySum}
 use Rattle.tasks.proofs.of_memory.Statement.{statement}
 use Rattle.tasks.proofs.of_memory.Tie as tie
 
 abbrev Inv-loop : tie.InvT-loop
-Inv-loop supply tasks count sum₀ found₀ i₀ sum found i =
-    (i ≤ count) × (count ≤ 16) × (sum ≤ i * 4294967296) × (sum ≡ memorySum tasks i) × (found ≡ firstFound (ofMemory tasks supply) i)
+Inv-loop list supply tasks most sum₀ i₀ sum i = (i ≤ list .count) × (sum ≤ i * 4294967296) × (sum ≡ memorySum tasks i) × (firstFound (ofMemory tasks supply) i .number ≡ 0)
 
 abbrev μ-loop : tie.MeasureT-loop
-μ-loop supply tasks count sum₀ found₀ i₀ sum found i =
-    count - i
-
-loop-holds : tie.Need-loop-holds Inv-loop μ-loop
-unfolding firstFound none refusal memorySum sumOf
-loop-holds c = (omega arith, omega arith, omega arith, refl, refl)
-
-mul-t : tie.Need-mul-t Inv-loop μ-loop
-mul-t c = omega arith
-
-array-copy-out-t : tie.Need-array-copy-out-t Inv-loop μ-loop
-array-copy-out-t c = omega arith
+μ-loop list supply tasks most sum₀ i₀ sum i = list .count - i
 
 wide-requires : tie.Need-wide-requires Inv-loop μ-loop
 wide-requires c κs = tt
 
+loop-holds : tie.Need-loop-holds Inv-loop μ-loop
+unfolding memorySum sumOf
+loop-holds c = (omega arith, omega arith, refl, nothing-yet (ofMemory _ _))
+
+mul-t : tie.Need-mul-t Inv-loop μ-loop
+mul-t c = omega (arith, c .before .before .before .before .before .pre)
+
+array-copy-out-t : tie.Need-array-copy-out-t Inv-loop μ-loop
+array-copy-out-t c = omega (arith, c .before .before .before .before .before .pre)
+
+wide-requires-2 : tie.Need-wide-requires-2 Inv-loop μ-loop
+wide-requires-2 c κs = tt
+
 add-sum : tie.Need-add-sum Inv-loop μ-loop
-add-sum c = omega arith
+add-sum c = omega (arith, c .before .before .before .before .before .before .before .pre)
 
-add-over-supply : tie.Need-add-over-supply Inv-loop μ-loop
-add-over-supply c = omega arith
+add-t14 : tie.Need-add-t14 Inv-loop μ-loop
+add-t14 c = omega arith
 
-over-supply-requires : tie.Need-over-supply-requires Inv-loop μ-loop
-over-supply-requires c κs = tt
-
-or-else-requires : tie.Need-or-else-requires Inv-loop μ-loop
-or-else-requires c κs = tt
+returns : tie.Need-returns Inv-loop μ-loop
+unfolding taskAt noTask ofMemory
+returns c =
+    found-here (ofMemory _ _) _ _ _ (c .before .before .before .if1 .taken) (c .before .before .before .before .before .loop .inv .3) (exceeds _ 4 _ _ _ (one-more-memory _ _ _ _ (c .before .before .before .before .before .loop .inv .2) (c .before .wide2 .ensures .0)) (omega (arith, c .before .before .before .before .before .before .wide .ensures .0))) (λ z. omega arith)
 
 add-i : tie.Need-add-i Inv-loop μ-loop
-add-i c = omega arith
+add-i c = omega (arith, c .before .before .before .before .before .before .before .before .pre)
 
 loop-less : tie.Need-loop-less Inv-loop μ-loop
 loop-less c = omega arith
 
 loop-again : tie.Need-loop-again Inv-loop μ-loop
-unfolding taskAt noTask
+unfolding taskAt noTask ofMemory
 loop-again c =
-    let summed = one-more-memory _ _ _ _ (c .before .before .before .before .before .loop .inv .3) (c .before .before .wide .ensures .0) in (
-      omega arith,
-      omega arith,
-      omega arith,
-      summed,
-      one-more-found _ _ _ _ _ (c .before .before .before .before .before .loop .inv .4) (of-memory-at _ _ _ _ _ summed (c .before .over-supply .ensures)) (c .or-else .ensures),
-    )
+    let summed = one-more-memory _ _ _ _ (c .before .before .before .before .before .loop .inv .2) (c .before .wide2 .ensures .0) in
+    (omega arith, omega arith, rw (add-one _) summed, nothing-here (ofMemory _ _) _ (c .before .before .before .before .before .loop .inv .3) (keeps-to _ 4 _ _ _ summed (omega (arith, c .before .before .before .before .before .before .wide .ensures .0))))
 
-returns : tie.Need-returns Inv-loop μ-loop
-returns c =
-    let end : c .before .loop .i ≡ c .before .before .before .args .list .count = omega arith in
-    rw end at (c .before .loop .inv .4)
+returns-2 : tie.Need-returns-2 Inv-loop μ-loop
+returns-2 c = nothing-at-all _ _ _ 0 (omega arith) (c .before .before .loop .inv .3)
 
 pub of-memory-spec : {M : Type 1} → statement M
 of-memory-spec =
@@ -70,15 +64,15 @@ of-memory-spec =
     (tie.spec
     Inv-loop
     μ-loop
+    wide-requires
     loop-holds
     mul-t
     array-copy-out-t
-    wide-requires
+    wide-requires-2
     add-sum
-    add-over-supply
-    over-supply-requires
-    or-else-requires
+    add-t14
+    returns
     add-i
     loop-less
     loop-again
-    returns)
+    returns-2)

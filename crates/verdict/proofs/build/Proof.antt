@@ -1,6 +1,5 @@
 -- `verdict::build` meets its contract.
 use mathlib.Core.Path.{sym, _∙_}
-use native.Mathlib.Omega.{arith}
 use Rattle.verdict.proofs.Answers.{accepted-bounded, built-refused, built-short, built-whole}
 use borrow.Author.Needs.{needs}
 use Rattle.verdict.proofs.build.Statement.{statement}
@@ -28,7 +27,7 @@ returns-2 c =
 write-entries-requires : tie.Need-write-entries-requires
 write-entries-requires c κs =
     let k = accepted-bounded _ _ _ _ _ _ (sym (c .before .before .before .before .before .judge .ensures) ∙ c .before .before .before .verdict .given .1) in
-    (k .0, omega (arith, k .0 .keeps .cycle-within), c .before .if1 .left)
+    (k .0, k .1, c .before .if1 .left, k .2)
 
 same-length : tie.Need-same-length
 same-length c = search needs

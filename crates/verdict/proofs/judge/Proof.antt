@@ -1,7 +1,6 @@
 -- `verdict::judge` meets its contract.
 use mathlib.Core.Path.{sym, _∙_}
-use Rattle.verdict.specs.Judged.{kept-bounded}
-use Rattle.verdict.proofs.Answers.{judge-broken, judge-kept}
+use Rattle.verdict.proofs.Answers.{judge-broken, judge-kept, kept-bounded}
 use borrow.Author.Needs.{needs}
 use Rattle.verdict.proofs.judge.Statement.{statement}
 use Rattle.verdict.proofs.judge.Tie as tie

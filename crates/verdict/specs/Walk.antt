@@ -1,0 +1,317 @@
+-- The walk from event to event over arrays of numbers is the slice rule of the plan that they show.
+use mathlib.Core.Path.{_≡_, refl, sym, ap, _∙_}
+use mathlib.Core.Bool.{Bool, _&&_}
+use mathlib.Core.List.{List}
+use mathlib.Core.Logic.{inl, inr, ⊎-elim}
+use Prim.Native.Nat.{ℕ, zero, suc, _+_, _-_, _*_, _≤_, _<_}
+use native.Mathlib.Omega.{arith}
+use native.Mathlib.Nat.{add-zero, add-suc, suc-inj, mod-eq-of-lt, div-eq-of-lt, zero-mul}
+use lib.Dec.{ltb}
+use lib.ListN.{length}
+use borrow.Author.Tests.{lt-ltb, le-ltb, eq-eqb, ne-eqb}
+use Rattle.basis.specs.Bytes.{at, overwrite, overwrite-length, overwrite-at}
+use Rattle.basis.specs.Choose.{choose, choose-yes, choose-no, choose-either, le-or-lt, eq-or-ne}
+use Rattle.basis.specs.Sum.{sum, sum-grows}
+use Rattle.plan.specs.Plan.{Plan, Sound, release, deadline, job, age, keyIn, gets, table, OnTimeUpTo}
+use Rattle.plan.specs.Run.{release-age, lacks, lacks-open, lacks-shut}
+use Rattle.plan.specs.Order.{Ranked, ranked-first, one-place, FirstIn}
+use Rattle.plan.specs.Events.{nextEvent, event-open, event-by-release, deadline-not-before, event-inside, ComesTo, before-event, at-deadline, at-release, left, GoesTo, entry-goes, after-left}
+use Rattle.verdict.specs.declared.Late.{Late}
+use Rattle.verdict.specs.Lateness.{received, missing, missedAt, lateBy, lateness}
+use Rattle.verdict.specs.Deadlines.{nothing-late, earlier-second}
+use Rattle.verdict.specs.Ends.{endBy, end-got, end-kept, end-shut}
+use Rattle.verdict.specs.Shapes.{until, endAfter, HandedOut, missingOf, turned, eventThen, releaseThen, lackThen, LateIn}
+
+-- ---- the arrays
+-- They show the plan: place k of each belongs to the k-th task by rank.
+pub record Shows (P : Plan) (order periods dues runtimes : List ℕ) : Type 0 where
+  pub ranked : (t : ℕ) → Ranked (keyIn P t) (P .count) order
+  pub period-is : (k : ℕ) → k < P .count → at periods k ≡ P .period (at order k)
+  pub due-is : (k : ℕ) → k < P .count → at dues k ≡ P .due (at order k)
+  pub runtime-is : (k j : ℕ) → k < P .count → at runtimes k ≡ P .runtime (at order k) j
+  pub dues-room : P .count ≤ length dues
+  pub runtimes-room : P .count ≤ length runtimes
+
+-- Before slice t they hold what each task lacks, when its current job was released, its next event and the end of its first job.
+pub record Holds (P : Plan) (t : ℕ) (order lacks′ releases events ends : List ℕ) : Type 0 where
+  pub lacks-room : P .count ≤ length lacks′
+  pub releases-room : P .count ≤ length releases
+  pub events-room : P .count ≤ length events
+  pub ends-room : P .count ≤ length ends
+  pub lack-is : (k : ℕ) → k < P .count → at lacks′ k ≡ lacks P (P .runtime) (P .runtime) t (at order k)
+  pub release-is : (k : ℕ) → k < P .count → at releases k ≡ release P (at order k) (job P (at order k) t)
+  pub event-is : (k : ℕ) → k < P .count → at events k ≡ nextEvent P (at order k) t
+  pub end-is : (k : ℕ) → k < P .count → at ends k ≡ endBy P t (at order k)
+
+-- ---- the ways of a task at an event
+module _ {A : Type 0} (next event t : ℕ) (stays waits begins : A) where
+  pub turned-stays : (event ≡ t → ⊥) → turned next event t stays waits begins ≡ stays
+  unfolding turned
+  turned-stays ne = choose-no _ _ _ (ne-eqb event t ne)
+
+  pub turned-waits : event ≡ t → t < next → turned next event t stays waits begins ≡ waits
+  unfolding turned
+  turned-waits e l = choose-yes _ _ _ (eq-eqb event t e) ∙ choose-yes _ _ _ (lt-ltb t next l)
+
+  pub turned-begins : event ≡ t → next ≤ t → turned next event t stays waits begins ≡ begins
+  unfolding turned
+  turned-begins e l = choose-yes _ _ _ (eq-eqb event t e) ∙ choose-no _ _ _ (le-ltb t next l)
+
+-- ---- a missed deadline from its two parts
+late-of : (late : Late) (f : ℕ → ℕ) (e : ℕ) → late .task ≡ e → ((i : ℕ) → e ≡ suc i → late .short ≡ f i) → (e ≡ 0 → late .short ≡ 0) → late ≡ lateBy f e
+unfolding lateBy
+late-of late f zero p some none = λ j. record { task = p j; short = none refl j }
+late-of late f (suc i) p some none = λ j. record { task = p j; short = some i refl j }
+
+-- ---- the end of a first job, slice by slice
+module _ (lack : ℕ → ℕ) (k s : ℕ) where
+  -- what the slice after s brings of a turn
+  until-turn : sum lack k ≤ s → s < sum lack (suc k) → (until lack k (suc s) ≡ suc s) × (sum lack k < until lack k (suc s))
+  unfolding until
+  until-turn a b = (omega arith, omega arith)
+
+  until-over : sum lack (suc k) ≤ s → until lack k (suc s) ≡ until lack k s
+  unfolding until
+  until-over a = omega arith
+
+  until-to-come : suc s ≤ sum lack k → (until lack k (suc s) ≤ sum lack k) × (until lack k s ≤ sum lack k)
+  unfolding until
+  until-to-come a = (omega arith, omega arith)
+
+module _ (P : Plan) (S : Sound P) (order periods dues runtimes : List ℕ) (W : Shows P order periods dues runtimes)
+    (t s : ℕ) (lacks₀ releases events ends : List ℕ) (H : Holds P t order lacks₀ releases events ends) (Z : lateness P t .task ≡ 0)
+    (next : ℕ) (is-next : next ≡ suc (t + s)) (quiet : (k : ℕ) → k < P .count → next ≤ at events k) where
+  abbrev n : ℕ
+  n = P .count
+
+  -- the last slice before the next event
+  abbrev u : ℕ
+  u = t + s
+
+  quiet-task : (i : ℕ) → i < n → t + suc s ≤ nextEvent P i t
+  quiet-task i li =
+      let p = W .ranked t .places i li in
+      omega (arith, add-suc t s, is-next, quiet (p .place) (p .below), H .event-is (p .place) (p .below), ap (λ (x : ℕ). nextEvent P x t) (p .is))
+
+  -- Every slice goes to the task whose turn it is.
+  pub entry-turn : (x : ℕ) → x < suc s → GoesTo order (at lacks₀) n x (table P (t + x))
+  unfolding table
+  entry-turn x l = entry-goes P S (P .runtime) t (suc s) quiet-task order (W .ranked t) (at lacks₀) (H .lack-is) x l
+
+  -- No deadline comes before the next event, so nothing is late by then.
+  on-time-inside : OnTimeUpTo P (P .runtime) t → OnTimeUpTo P (P .runtime) u
+  unfolding OnTimeUpTo
+  on-time-inside on i k li d =
+      ⊎-elim
+      (λ (l : deadline P i k ≤ t). on i k li l)
+      (λ (l : t < deadline P i k). absurd (omega (arith, deadline-not-before P S i li t k l, quiet-task i li, add-suc t s)))
+      (le-or-lt (deadline P i k) t)
+
+  on-time-so-far : lateness P u .task ≡ 0
+  on-time-so-far = nothing-late P S u .1 (on-time-inside (nothing-late P S t .0 Z))
+
+  -- ---- the slices are handed out
+  module _ (lacks₁ ends₁ : List ℕ) (G : HandedOut dues lacks₀ ends n t (suc s) lacks₁ ends₁) where
+    lack-after : (k : ℕ) → k < n → at lacks₁ k ≡ lacks P (P .runtime) (P .runtime) u (at order k) - gets (table P u) (at order k)
+    unfolding table
+    lack-after k lk =
+        ap (λ (l : List ℕ). at l k) (G .lacks-are)
+        ∙ overwrite-at _ lacks₀ 0 n k lk (omega (arith, H .lacks-room))
+        ∙ sym (after-left P S (P .runtime) t (suc s) quiet-task order (W .ranked t) (at lacks₀) (H .lack-is) s (omega arith) k lk)
+
+    -- ---- deadlines at the next event
+    module _ (k : ℕ) (lk : k < n) where
+      abbrev i : ℕ
+      i = at order k
+
+      li : i < n
+      li = W .ranked t .below k lk
+
+      event-is-next : nextEvent P i u ≡ at events k
+      event-is-next = event-inside P S i li t (suc s) (quiet-task i li) s (omega arith) .1 ∙ sym (H .event-is k lk)
+
+      release-is-same : release P i (job P i u) ≡ at releases k
+      release-is-same = event-inside P S i li t (suc s) (quiet-task i li) s (omega arith) .0 ∙ sym (H .release-is k lk)
+
+      missing-is : missing P u i ≡ missingOf (at events k) (at lacks₁ k) next
+      unfolding missing missingOf received
+      missing-is =
+          ⊎-elim
+          (λ (o : P .due i ≤ age P i u).
+          choose-no _ _ _ (ne-eqb (suc (age P i u)) (P .due i) (λ e. omega arith))
+          ∙ sym (choose-either (λ (x : ℕ). x ≡ 0) _ (at lacks₁ k) 0 (omega (arith, lack-after k lk, lacks-shut P (P .runtime) (P .runtime) u i o)) refl))
+          (λ (b : age P i u < P .due i).
+          let e = event-open P i u b in
+          ⊎-elim
+          (λ (here : suc (age P i u) ≡ P .due i).
+          choose-yes _ _ _ (eq-eqb (suc (age P i u)) (P .due i) here)
+          ∙ omega (arith, lack-after k lk, lacks-open P (P .runtime) (P .runtime) u i b)
+          ∙ sym (choose-yes _ _ _ (eq-eqb (at events k) next (omega (arith, event-is-next, release-age P S i li u)))))
+          (λ (ne : suc (age P i u) ≡ P .due i → ⊥).
+          choose-no _ _ _ (ne-eqb (suc (age P i u)) (P .due i) ne) ∙ sym (choose-no _ _ _ (ne-eqb (at events k) next (λ q. ne (omega (arith, event-is-next, release-age P S i li u))))))
+          (eq-or-ne (suc (age P i u)) (P .due i)))
+          (le-or-lt (P .due i) (age P i u))
+
+    -- Who is late at the next event is the slice rule's.
+    missed-is : (e : ℕ) → FirstIn order (λ k. missingOf (at events k) (at lacks₁ k) next) n e → e ≡ missedAt P u
+    unfolding missedAt
+    missed-is e f = ranked-first (keyIn P u) (missing P u) _ n order (W .ranked u) (λ k lk. sym (missing-is k lk)) e f
+
+    late-so : (late : Late) → late .task ≡ missedAt P u → ((i : ℕ) → late .task ≡ suc i → late .short ≡ missing P u i) → (late .task ≡ 0 → late .short ≡ 0) → late ≡ lateness P next
+    unfolding lateness
+    late-so late e some none =
+        late-of late (missing P u) (missedAt P u) e (λ i q. some i (e ∙ q)) (λ q. none (e ∙ q))
+        ∙ sym (earlier-second (lateness P u) (lateBy (missing P u) (missedAt P u)) on-time-so-far)
+        ∙ sym (ap (lateness P) is-next)
+
+    pub late-is : (late : Late) → LateIn order (λ k. missingOf (at events k) (at lacks₁ k) next) n late → late ≡ lateness P next
+    unfolding LateIn FirstIn
+    late-is late (inl L) = late-so late (missed-is (late .task) (inl (L .none))) (λ i e. absurd (omega (arith, L .none .idle))) (λ _. L .short-is)
+    late-is late (inr L) =
+        late-so late (missed-is (late .task) (inr (L .first)))
+        (λ i e.
+        let q : at order (L .first .place) ≡ i = suc-inj (sym (L .first .is) ∙ e) in
+        L .short-is ∙ sym (missing-is (L .first .place) (L .first .below)) ∙ ap (missing P u) q)
+        (λ z. absurd (omega (arith, L .first .is)))
+
+    -- ---- the end of a first job
+    -- In its first job a task has its next event at its deadline.
+    first-event : (i : ℕ) → i < n → t < P .due i → nextEvent P i t ≡ P .due i
+    unfolding release job age
+    first-event i li l =
+        let young : t < P .period i = omega (arith, S .due-within i li) in
+        let first-age : age P i t ≡ t = mod-eq-of-lt young in
+        let first-release : release P i (job P i t) ≡ 0 = ap (λ (q : ℕ). q * P .period i) (div-eq-of-lt young) ∙ zero-mul (P .period i) in
+        event-open P i t (omega arith) ∙ omega arith
+
+    module _ (k : ℕ) (lk : k < n) where
+      abbrev task : ℕ
+      task = at order k
+
+      abbrev lack : ℕ → ℕ
+      lack = at lacks₀
+
+      -- what the end is after x of the slices
+      unfoldable endWith : ℕ → ℕ
+      endWith x = choose (ltb (sum lack k) (until lack k x)) (t + until lack k x) (endBy P t task)
+
+      end-same : (x : ℕ) → until lack k (suc x) ≡ until lack k x → endWith (suc x) ≡ endWith x
+      unfolding endWith
+      end-same x e = ap (λ (y : ℕ). choose (ltb (sum lack k) y) (t + y) (endBy P t task)) e
+
+      end-to-come : (x : ℕ) → until lack k x ≤ sum lack k → endWith x ≡ endBy P t task
+      unfolding endWith
+      end-to-come x l = choose-no _ _ _ (le-ltb (sum lack k) (until lack k x) l)
+
+      end-slice : (x : ℕ) → t + x < P .due task → endBy P (t + x) task ≡ endWith x → GoesTo order lack n x (table P (t + x)) → endBy P (suc (t + x)) task ≡ endWith (suc x)
+      unfolding GoesTo endWith
+      end-slice x l so (inl h) =
+          end-kept P task (t + x) l (λ q. omega (arith, h .idle))
+          ∙ so ∙ sym (end-same x (until-over lack k x (omega (arith, h .all-had, sum-grows lack (suc k) n lk))))
+      end-slice x l so (inr h) =
+          ⊎-elim
+          (λ (here : h .place ≡ k).
+          let a = ap (sum lack) here in
+          let b = ap (λ (y : ℕ). sum lack (suc y)) here in
+          let turn = until-turn lack k x (omega (arith, h .begun)) (omega (arith, h .not-over)) in
+          end-got P task (t + x) l (h .is ∙ ap (λ (y : ℕ). suc (at order y)) here)
+          ∙ omega (arith, turn .0, choose-yes (ltb (sum lack k) (until lack k (suc x))) (t + until lack k (suc x)) (endBy P t task) (lt-ltb _ _ (turn .1))))
+          (λ (other : h .place ≡ k → ⊥).
+          end-kept P task (t + x) l (λ q. other (one-place (keyIn P t) n order (W .ranked t) (h .place) k (h .below) lk (suc-inj (sym (h .is) ∙ q))))
+          ∙ so
+          ∙ ⊎-elim
+          (λ (before : k ≤ h .place). sym (end-same x (until-over lack k x (omega (arith, h .begun, sum-grows lack (suc k) (h .place) (omega arith))))))
+          (λ (behind : h .place < k).
+          let to-come = until-to-come lack k x (omega (arith, h .not-over, sum-grows lack (suc (h .place)) k behind)) in
+          end-to-come x (to-come .1) ∙ sym (end-to-come (suc x) (to-come .0)))
+          (le-or-lt k (h .place)))
+          (eq-or-ne (h .place) k)
+
+      -- in its first job, and after it
+      first-end : t < P .due task → (x : ℕ) → x ≤ suc s → endBy P (t + x) task ≡ endWith x
+      unfolding until
+      first-end l zero lx = ap (λ (y : ℕ). endBy P y task) (add-zero t) ∙ sym (end-to-come 0 (omega arith))
+      first-end l (suc x) lx =
+          ap (λ (y : ℕ). endBy P y task) (add-suc t x)
+          ∙ end-slice x (omega (arith, first-event task (W .ranked t .below k lk) l, quiet-task task (W .ranked t .below k lk))) (first-end l x (omega arith)) (entry-turn x lx)
+
+      later-end : P .due task ≤ t → (x : ℕ) → endBy P (t + x) task ≡ endBy P t task
+      later-end l zero = ap (λ (y : ℕ). endBy P y task) (add-zero t)
+      later-end l (suc x) = ap (λ (y : ℕ). endBy P y task) (add-suc t x) ∙ end-shut P task (t + x) (omega arith) ∙ later-end l x
+
+      end-after : at ends₁ k ≡ endBy P next task
+      unfolding endAfter endWith
+      end-after =
+          ap (λ (l : List ℕ). at l k) (G .ends-are)
+          ∙ overwrite-at _ ends 0 n k lk (omega (arith, H .ends-room))
+          ∙ ⊎-elim
+          (λ (o : P .due task ≤ t).
+          choose-no _ _ _ (ap (λ (b : Bool). b && ltb (sum lack k) (until lack k (suc s))) (le-ltb t (at dues k) (omega (arith, W .due-is k lk))))
+          ∙ H .end-is k lk ∙ sym (later-end o (suc s)))
+          (λ (b : t < P .due task).
+          rw (lt-ltb t (at dues k) (omega (arith, W .due-is k lk)), H .end-is k lk) (sym (first-end b (suc s) (omega arith))))
+          (le-or-lt (P .due task) t)
+          ∙ ap (λ (x : ℕ). endBy P x task) (add-suc t s ∙ sym is-next)
+
+    -- ---- after the event, if nobody is late
+    module _ (none-late : (k : ℕ) → k < n → missingOf (at events k) (at lacks₁ k) next ≡ 0) where
+      module _ (k : ℕ) (lk : k < n) where
+        abbrev r : ℕ
+        r = at releases k + at periods k
+
+        -- when its job was released, its next event, and what it lacks
+        comes-to : ComesTo P S (P .runtime) (i k lk) (li k lk) u (releaseThen periods dues runtimes releases events lacks₁ next k) (eventThen periods dues runtimes releases events lacks₁ next k) (lackThen periods dues runtimes releases events lacks₁ next k)
+        unfolding releaseThen eventThen lackThen missingOf table
+        comes-to =
+            ⊎-elim
+            (λ (here : at events k ≡ next).
+            ⊎-elim
+            (λ (fresh : r ≤ next).
+            let last = event-by-release P S (i k lk) (li k lk) u in
+            let C = at-release P S (P .runtime) (i k lk) (li k lk) u (omega (arith, event-is-next k lk, release-is-same k lk, W .period-is k lk)) in
+            as-then C
+            (sym is-next ∙ sym (turned-begins r (at events k) next (at releases k) (at releases k) next here fresh))
+            (omega (arith, W .due-is k lk) ∙ sym (turned-begins r (at events k) next (at events k) r (next + at dues k) here fresh))
+            (sym (W .runtime-is k (job P (i k lk) (suc u)) lk) ∙ sym (turned-begins r (at events k) next (at lacks₁ k) (at lacks₁ k) (at runtimes k) here fresh)))
+            (λ (waits : next < r).
+            let C = at-deadline P S (P .runtime) (i k lk) (li k lk) u (omega (arith, event-is-next k lk)) (omega (arith, release-is-same k lk, W .period-is k lk)) in
+            as-then C
+            (release-is-same k lk ∙ sym (turned-waits r (at events k) next (at releases k) (at releases k) next here waits))
+            (omega (arith, release-is-same k lk, W .period-is k lk) ∙ sym (turned-waits r (at events k) next (at events k) r (next + at dues k) here waits))
+            (sym (sym (choose-yes _ (at lacks₁ k) 0 (eq-eqb (at events k) next here)) ∙ none-late k lk) ∙ sym (turned-waits r (at events k) next (at lacks₁ k) (at lacks₁ k) (at runtimes k) here waits)))
+            (le-or-lt r next))
+            (λ (not-here : at events k ≡ next → ⊥).
+            let C = before-event P S (P .runtime) (i k lk) (li k lk) u (omega (arith, event-is-next k lk, quiet k lk)) in
+            as-then C
+            (release-is-same k lk ∙ sym (turned-stays r (at events k) next (at releases k) (at releases k) next not-here))
+            (event-is-next k lk ∙ sym (turned-stays r (at events k) next (at events k) r (next + at dues k) not-here))
+            (sym (lack-after k lk) ∙ sym (turned-stays r (at events k) next (at lacks₁ k) (at lacks₁ k) (at runtimes k) not-here)))
+            (eq-or-ne (at events k) next)
+          where
+            as-then : {a b c a′ b′ c′ : ℕ} → ComesTo P S (P .runtime) (i k lk) (li k lk) u a b c → a ≡ a′ → b ≡ b′ → c ≡ c′ → ComesTo P S (P .runtime) (i k lk) (li k lk) u a′ b′ c′
+            as-then C ea eb ec = record { release-is = C .release-is ∙ ea; event-is = C .event-is ∙ eb; lack-is = C .lack-is ∙ ec }
+
+      pub holds-next : (releases₂ events₂ lacks₂ : List ℕ)
+          → events₂ ≡ overwrite (eventThen periods dues runtimes releases events lacks₁ next) n events
+          → releases₂ ≡ overwrite (releaseThen periods dues runtimes releases events lacks₁ next) n releases
+          → lacks₂ ≡ overwrite (lackThen periods dues runtimes releases events lacks₁ next) n lacks₁
+          → Holds P next order lacks₂ releases₂ events₂ ends₁
+      holds-next releases₂ events₂ lacks₂ ee er el =
+          rw is-next
+          (record {
+            lacks-room = omega (arith, ap length el, overwrite-length (lackThen periods dues runtimes releases events lacks₁ next) lacks₁ n, lacks₁-room);
+            releases-room = omega (arith, ap length er, overwrite-length (releaseThen periods dues runtimes releases events lacks₁ next) releases n, H .releases-room);
+            events-room = omega (arith, ap length ee, overwrite-length (eventThen periods dues runtimes releases events lacks₁ next) events n, H .events-room);
+            ends-room = omega (arith, ap length (G .ends-are), overwrite-length (endAfter dues lacks₀ ends t (suc s)) ends n, H .ends-room);
+            lack-is = λ k lk. ap (λ (l : List ℕ). at l k) el ∙ overwrite-at _ lacks₁ 0 n k lk (omega (arith, lacks₁-room)) ∙ sym (comes-to k lk .lack-is);
+            release-is = λ k lk. ap (λ (l : List ℕ). at l k) er ∙ overwrite-at _ releases 0 n k lk (omega (arith, H .releases-room)) ∙ sym (comes-to k lk .release-is);
+            event-is = λ k lk. ap (λ (l : List ℕ). at l k) ee ∙ overwrite-at _ events 0 n k lk (omega (arith, H .events-room)) ∙ sym (comes-to k lk .event-is);
+            end-is = λ k lk. end-after k lk ∙ ap (λ (x : ℕ). endBy P x (at order k)) is-next;
+          })
+        where
+          lacks₁-room : n ≤ length lacks₁
+          lacks₁-room = omega (arith, ap length (G .lacks-are), overwrite-length (λ k. left (at lacks₀) k (suc s)) lacks₀ n, H .lacks-room)
+
+-- The ends of the first jobs after slice t.
+pub record EndsAre (P : Plan) (t : ℕ) (order ends : List ℕ) : Type 0 where
+  pub end-is : (k : ℕ) → k < P .count → at ends k ≡ endBy P t (at order k)
