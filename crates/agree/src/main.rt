@@ -10,10 +10,8 @@ mod ends; // the end record
 use cases::Answer;
 use cases::taken;
 use cases::told;
-use run::Job;
 use run::Mode;
 use run::State;
-use run::Timing;
 use tasks::Task;
 use tasks::TaskList;
 
@@ -54,14 +52,10 @@ fn empty() -> Hand {
             jobs: 0,
         },
         state: State {
-            tasks: [Timing {
-                period: 0,
-                runtime: 0,
-            }; 16],
-            jobs: [Job {
-                used: 0,
-                ended: false,
-            }; 16],
+            periods: [0; 16],
+            runtimes: [0; 16],
+            used: [0; 16],
+            ended: [false; 16],
             count: 0,
             cycle: 0,
             position: 0,

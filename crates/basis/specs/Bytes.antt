@@ -5,13 +5,18 @@ use mathlib.Core.Logic.{⊎-elim}
 use Prim.Native.Nat.{ℕ, zero, suc, _+_, _≤_, _<_}
 use native.Mathlib.Omega.{arith}
 use native.Mathlib.Numerals.{add-one}
-use lib.ListN.{length, getD, set, length-set}
-use lib.Seq.{getD-set-same, getD-set-other, set-getD}
+use lib.ListN.{length, getD, set, length-set, replicate}
+use lib.Seq.{getD-set-same, getD-set-other, set-getD, set-out}
 use Rattle.basis.specs.Choose.{below-suc, le-or-lt}
 
 -- the number at a place, 0 past the end
 abbrev pub at : List ℕ → ℕ → ℕ
 at l i = getD l i 0
+
+pub zeros : (n i : ℕ) → at (replicate n 0) i ≡ 0
+zeros zero i = refl
+zeros (suc n) zero = refl
+zeros (suc n) (suc i) = zeros n i
 
 -- what is as it was, written or not
 pub as-it-was : (l : List ℕ) (k v : ℕ) → v ≡ at l k → l ≡ set l k v
@@ -53,11 +58,19 @@ module _ {A : Type 0} (f : ℕ → A) (old : List A) where
       ap (λ (x : ℕ). getD (overwrite f (suc n) old) x d) e ∙ getD-set-same (overwrite f n old) n (f n) d (omega (arith, overwrite-length n)) ∙ sym (ap f e))
       (below-suc i n l)
 
--- It goes by the values below n alone.
-pub overwrite-same : {A : Type 0} (f g : ℕ → A) (old : List A) (n : ℕ) → ((i : ℕ) → i < n → f i ≡ g i) → overwrite f n old ≡ overwrite g n old
+-- It goes by the values below n alone, as far as the list reaches.
+pub overwrite-inside : {A : Type 0} (f g : ℕ → A) (old : List A) (n : ℕ) → ((i : ℕ) → i < n → i < length old → f i ≡ g i) → overwrite f n old ≡ overwrite g n old
 unfolding overwrite
-overwrite-same f g old zero h = refl
-overwrite-same f g old (suc n) h = ap₂ (λ (l : List _) (x : _). set l n x) (overwrite-same f g old n (λ i l. h i (omega arith))) (h n (omega arith))
+overwrite-inside f g old zero h = refl
+overwrite-inside f g old (suc n) h =
+    let before = overwrite-inside f g old n (λ i l. h i (omega arith)) in
+    ⊎-elim
+    (λ (out : length old ≤ n). set-out _ n (f n) (omega (arith, overwrite-length f old n)) ∙ before ∙ sym (set-out _ n (g n) (omega (arith, overwrite-length g old n))))
+    (λ (inside : n < length old). ap₂ (λ (l : List _) (x : _). set l n x) before (h n (omega arith) inside))
+    (le-or-lt (length old) n)
+
+pub overwrite-same : {A : Type 0} (f g : ℕ → A) (old : List A) (n : ℕ) → ((i : ℕ) → i < n → f i ≡ g i) → overwrite f n old ≡ overwrite g n old
+overwrite-same f g old n h = overwrite-inside f g old n (λ i l _. h i l)
 
 -- What is as it was need not be written.
 pub overwrite-rest : {A : Type 0} (f : ℕ → A) (old : List A) (d : A) (k n : ℕ) → k ≤ n → ((j : ℕ) → k ≤ j → j < n → f j ≡ getD old j d) → overwrite f n old ≡ overwrite f k old

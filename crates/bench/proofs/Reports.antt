@@ -3,13 +3,14 @@ use mathlib.Core.Path.{_≡_, refl, sym, ap, _∙_}
 use mathlib.Core.List.{List}
 use Prim.Native.Nat.{ℕ, zero, suc, _+_, _≤_, _<_}
 use native.Mathlib.Omega.{arith}
+use lib.Dec.{ltb}
 use lib.ListN.{getD}
-use borrow.Author.Tests.{eq-eqb, ne-eqb}
-use Rattle.basis.specs.Choose.{choose-yes, choose-no}
+use borrow.Author.Tests.{lt-ltb, eq-eqb, ne-eqb}
+use Rattle.basis.specs.Choose.{choose, choose-yes, choose-no}
 use Rattle.run.specs.declared.State.{State}
 use Rattle.run.specs.declared.Runner.{Runner}
 use Rattle.run.specs.declared.Runner.the-variants.{Idle, Task, Refused}
-use Rattle.run.specs.State.{jobOf, place}
+use Rattle.run.specs.State.{periodOf, currentOf, jobOf, offset, place, placeIn}
 use Rattle.run.specs.Sound.{SoundState}
 use Rattle.run.specs.Who.{running, whoRefusal, ofEntry, answered, whoOf, whoNumbers}
 use Rattle.run.specs.Accepted.{who-accepted, running-to}
@@ -18,6 +19,11 @@ use Rattle.bench.specs.Course.{reportOf, reportIn}
 -- A job of a sound state has used at most 4,096 slices.
 pub used-most : (s : State) → SoundState s → (i : ℕ) → i < s .count → jobOf s i .used ≤ 4096
 used-most s S i l = let T = S .tasks-sound i l in omega (arith, T .used-to, T .runtime-to, T .period-to)
+
+-- Its place in the log, as the run works it out.
+pub stands-at : (s : State) (i : ℕ) → i < 16 → (r : ℕ) → r ≡ choose (ltb i 16) (placeIn (s .periods) (s .cycle) (s .position) i) 0 → r ≡ place s i
+unfolding place placeIn offset currentOf periodOf
+stands-at s i l r e = e ∙ choose-yes _ _ _ (lt-ltb i 16 l)
 
 module _ (needs : List ℕ) (s : State) where
   pub report-none : (ran : ℕ) → ran ≡ 0 → 0 ≡ reportOf needs s ran

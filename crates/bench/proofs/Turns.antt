@@ -4,14 +4,9 @@ use mathlib.Core.List.{List}
 use Prim.Native.Nat.{ℕ, _+_}
 use native.Mathlib.Numerals.{add-one}
 use lib.ListN.{getD, set}
-use Rattle.basis.specs.Sum.{sum}
 use Rattle.basis.specs.Bytes.{overwrite, overwrite-next, overwrite-kept}
 use Rattle.bench.specs.Course.{endOf, Course, closed, courseAt}
 use native.Mathlib.Omega.{arith}
-
-pub one-more-sum : (f : ℕ → ℕ) (i m : ℕ) → m ≡ sum f i → m + f i ≡ sum f (i + 1)
-unfolding sum
-one-more-sum f i m e = rw add-one (ap (λ (x : ℕ). x + f i) e)
 
 -- The place that a turn of noting reads is still as it was.
 pub one-more-noted : (log old ends : List ℕ) (position i byte end : ℕ) → ends ≡ overwrite (λ j. endOf position (getD log j 0) (getD old j 0)) i old

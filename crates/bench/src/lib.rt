@@ -4,7 +4,6 @@ ghost use Prim.Native.Nat.{_≤_, _<_};
 ghost use lib.ListN.{length, getD};
 ghost use Rattle.basis.specs.Bytes.{overwrite};
 ghost use Rattle.units.specs.Conversion.{paper};
-ghost use Rattle.run.specs.State.{offset as jobsBefore, place as placeOf};
 ghost use Rattle.run.specs.Sound.{SoundState};
 ghost use Rattle.bench.specs.Course.{reportOf, reportIn, endOf, noted, SliceClosed, courseAt};
 ghost use Rattle.bench.specs.Drive.{taskIn, Drives};
@@ -50,33 +49,6 @@ pub fn task_in(period: u32, runtime: u32, memory: u32, slice: u32) -> Task
     }
 }
 
-// The jobs of the tasks before task i.
-fn offset(state: State, i: usize) -> usize
-    requires { ⌜ SoundState state × (i ≤ state .count) ⌝ }
-    ensures { λ r. ⌜ r ≡ jobsBefore state i ⌝ }
-{
-    let tasks = state.tasks;
-    let cycle = state.cycle;
-    let mut jobs: u32 = 0;
-    let mut j = 0;
-    while j < i {
-        let task = tasks[j];
-        jobs += cycle / task.period;
-        j += 1;
-    }
-    jobs as usize
-}
-
-// Where the current job of task i stands in the log, and its need among the needs.
-fn place(state: State, i: usize) -> usize
-    requires { ⌜ SoundState state × (i < state .count) ⌝ }
-    ensures { λ r. ⌜ r ≡ placeOf state i ⌝ }
-{
-    let tasks = state.tasks;
-    let task = tasks[i];
-    offset(state, i) + (state.position / task.period) as usize
-}
-
 fn need_at(needs: &[u32], at: usize) -> u32
     ensures { λ r. ⌜ r ≡ getD (now (needs .entry)) at 0 ⌝ }
 {
@@ -91,10 +63,10 @@ fn report_of(state: State, ran: usize, needs: &[u32]) -> u8
     if ran == 0 {
         return 0;
     }
-    let jobs = state.jobs;
-    let job = jobs[ran - 1];
-    let need = need_at(needs, place(state, ran - 1));
-    if job.used + 1 == need { 1 } else { 0 }
+    let used = state.used[ran - 1];
+    let at = run::place(&state.periods, state.cycle, state.position, ran - 1);
+    let need = need_at(needs, at);
+    if used + 1 == need { 1 } else { 0 }
 }
 
 fn report(state: State, table: &[u8], needs: &[u32]) -> u8

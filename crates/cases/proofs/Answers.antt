@@ -21,12 +21,12 @@ module _ (v : Verdict) (task : ℕ) (margin said : ℤ) (same : said ≡ margin)
   pub accepted-answer : (cycle jobs : ℕ) → v ≡ verdict.Accepted cycle jobs task margin
       → _≡_ {A = Answer} (record { refusal = 0; task = task; margin = said; cycle = cycle; jobs = jobs }) (answerOf v)
   unfolding answerOf numbers
-  accepted-answer cycle jobs e = cc (ap answerOf e)
+  accepted-answer cycle jobs e = cc
 
   pub refused-answer : (number : ℕ) → v ≡ verdict.Refused number task margin
       → _≡_ {A = Answer} (record { refusal = number; task = task; margin = said; cycle = 0; jobs = 0 }) (answerOf v)
   unfolding answerOf numbers
-  refused-answer number e = cc (ap answerOf e)
+  refused-answer number e = cc
 
 module _ (b : Begun) (v : Answer) where
   pub accepted-start : b ≡ begun.Accepted → v ≡ startAnswerOf b v

@@ -1,10 +1,8 @@
 // Numbers from standard input, little-endian, and what they make. Bytes that are not there read as 0: no tag follows them.
 use crate::Answer;
 use libc::STDIN_FILENO;
-use run::Job;
 use run::Mode;
 use run::State;
-use run::Timing;
 use tasks::Task;
 use tasks::TaskList;
 
@@ -92,49 +90,27 @@ pub fn take_list(count: usize) -> TaskList {
     TaskList { tasks, count }
 }
 
-fn take_timing() -> Timing {
-    let period = word();
-    let runtime = word();
-    Timing { period, runtime }
-}
-
-fn take_tasks() -> [Timing; 16] {
-    let mut tasks = [Timing {
-        period: 0,
-        runtime: 0,
-    }; 16];
+fn take_tasks(periods: &mut [u32; 16], runtimes: &mut [u32; 16]) {
     let mut i = 0;
     while i < 16 {
-        tasks[i] = take_timing();
+        periods[i] = word();
+        runtimes[i] = word();
         i += 1;
     }
-    tasks
 }
 
-// Jobs, and whether each `ended` is 0 or 1.
-struct Jobs {
-    jobs: [Job; 16],
-    formed: bool,
-}
-
-fn take_jobs() -> Jobs {
-    let mut jobs = [Job {
-        used: 0,
-        ended: false,
-    }; 16];
+// Whether each byte that says if a job has ended is 0 or 1.
+fn take_jobs(used: &mut [u32; 16], ended: &mut [bool; 16]) -> bool {
     let mut formed = true;
     let mut i = 0;
     while i < 16 {
-        let used = word();
-        let ended = byte();
-        jobs[i] = Job {
-            used,
-            ended: ended == 1,
-        };
-        formed = formed & (ended <= 1);
+        used[i] = word();
+        let said = byte();
+        ended[i] = said == 1;
+        formed = formed & (said <= 1);
         i += 1;
     }
-    Jobs { jobs, formed }
+    formed
 }
 
 fn mode_of(byte: u8) -> Mode {
@@ -163,20 +139,25 @@ pub fn take_state() -> Given {
     let position = word();
     let clock = word();
     let mode = byte();
-    let tasks = take_tasks();
-    let taken = take_jobs();
-    let jobs = taken.jobs;
+    let mut periods = [0u32; 16];
+    let mut runtimes = [0u32; 16];
+    take_tasks(&mut periods, &mut runtimes);
+    let mut used = [0u32; 16];
+    let mut ended = [false; 16];
+    let formed = take_jobs(&mut used, &mut ended);
     Given {
         state: State {
-            tasks,
-            jobs,
+            periods,
+            runtimes,
+            used,
+            ended,
             count,
             cycle,
             position,
             clock,
             mode: mode_of(mode),
         },
-        formed: taken.formed & (mode <= 1),
+        formed: formed & (mode <= 1),
     }
 }
 

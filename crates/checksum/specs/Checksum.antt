@@ -6,10 +6,7 @@ use lib.Bits.{bitXor}
 use lib.ListN.{length, getD}
 use Rattle.run.specs.declared.Mode.{Mode}
 use Rattle.run.specs.declared.Mode.the-variants.{Table, Filling}
-use Rattle.run.specs.declared.Timing.{Timing}
-use Rattle.run.specs.declared.Job.{Job}
 use Rattle.run.specs.declared.State.{State}
-use Rattle.run.specs.State.{noTiming, fresh}
 
 -- h becomes ((h xor byte) × 16777619) mod 2^32
 unfoldable pub mix : ℕ → ℕ → ℕ
@@ -29,18 +26,18 @@ unfoldable pub overWord : ℕ → ℕ → ℕ
 overWord h w = mix (mix (mix (mix h (w % 256)) (w / 256 % 256)) (w / 65536 % 256)) (w / 16777216)
 
 -- The first n places: period and run-time,
-unfoldable pub overTasks : ℕ → List Timing → ℕ → ℕ
-overTasks h tasks zero = h
-overTasks h tasks (suc n) = overWord (overWord (overTasks h tasks n) (getD tasks n noTiming .period)) (getD tasks n noTiming .runtime)
+unfoldable pub overTasks : ℕ → List ℕ → List ℕ → ℕ → ℕ
+overTasks h periods runtimes zero = h
+overTasks h periods runtimes (suc n) = overWord (overWord (overTasks h periods runtimes n) (getD periods n 0)) (getD runtimes n 0)
 
 -- and slices used and whether the job has ended.
 unfoldable pub endedByte : Bool → ℕ
 endedByte true = 1
 endedByte false = 0
 
-unfoldable pub overJobs : ℕ → List Job → ℕ → ℕ
-overJobs h jobs zero = h
-overJobs h jobs (suc n) = mix (overWord (overJobs h jobs n) (getD jobs n fresh .used)) (endedByte (getD jobs n fresh .ended))
+unfoldable pub overJobs : ℕ → List ℕ → List Bool → ℕ → ℕ
+overJobs h used ended zero = h
+overJobs h used ended (suc n) = mix (overWord (overJobs h used ended n) (getD used n 0)) (endedByte (getD ended n false))
 
 unfoldable pub modeByte : Mode → ℕ
 modeByte Table = 0
@@ -52,4 +49,4 @@ ofNumbers s =
     overWord (overWord (overWord (overWord (overWord 2166136261 (s .count % 4294967296)) (s .count / 4294967296)) (s .cycle)) (s .position)) (s .clock)
 
 unfoldable pub ofState : State → ℕ
-ofState s = overJobs (overTasks (mix (ofNumbers s) (modeByte (s .mode))) (s .tasks) 16) (s .jobs) 16
+ofState s = overJobs (overTasks (mix (ofNumbers s) (modeByte (s .mode))) (s .periods) (s .runtimes) 16) (s .used) (s .ended) 16

@@ -1,7 +1,7 @@
 // The checksum of the file of reference cases: FNV-1a of 32 bits, over a run of bytes and over a state.
 ghost use mathlib.Core.Path.{_≡_};
 ghost use lib.ListN.{length};
-ghost use Rattle.checksum.specs.Checksum.{mix, overWord, overBytes, overTasks, overJobs, endedByte, modeByte, ofBytes, ofState};
+ghost use Rattle.checksum.specs.Checksum.{mix, overWord, overBytes, overTasks, overJobs, modeByte, ofBytes, ofState};
 use run::Mode;
 use run::State;
 
@@ -40,44 +40,33 @@ pub fn of_bytes(bytes: &[u8]) -> u32
     with_bytes(2166136261, bytes)
 }
 
-fn with_tasks(h: u32, state: State) -> u32
-    ensures { λ r. ⌜ r ≡ overTasks h (state .tasks) 16 ⌝ }
+fn with_tasks<'a>(h: u32, periods: &'a [u32; 16], runtimes: &'a [u32; 16]) -> u32
+    ensures { λ r. ⌜ r ≡ overTasks h (now (periods .entry)) (now (runtimes .entry)) 16 ⌝ }
 {
-    let tasks = state.tasks;
     let mut sum = h;
     let mut i = 0;
     while i < 16 {
-        let task = tasks[i];
-        sum = with_word(with_word(sum, task.period), task.runtime);
+        sum = with_word(with_word(sum, periods[i]), runtimes[i]);
         i += 1;
     }
     sum
 }
 
-fn ended_byte(ended: bool) -> u8
-    ensures { λ r. ⌜ r ≡ endedByte ended ⌝ }
+fn with_jobs<'a>(h: u32, used: &'a [u32; 16], ended: &'a [bool; 16]) -> u32
+    ensures { λ r. ⌜ r ≡ overJobs h (now (used .entry)) (now (ended .entry)) 16 ⌝ }
 {
-    if ended { 1 } else { 0 }
-}
-
-fn with_jobs(h: u32, state: State) -> u32
-    ensures { λ r. ⌜ r ≡ overJobs h (state .jobs) 16 ⌝ }
-{
-    let jobs = state.jobs;
     let mut sum = h;
     let mut i = 0;
     while i < 16 {
-        let job = jobs[i];
-        sum = with_byte(with_word(sum, job.used), ended_byte(job.ended));
+        sum = with_byte(with_word(sum, used[i]), ended[i] as u8);
         i += 1;
     }
     sum
 }
 
-fn mode_byte(state: State) -> u8
-    ensures { λ r. ⌜ r ≡ modeByte (state .mode) ⌝ }
+fn mode_byte(mode: Mode) -> u8
+    ensures { λ r. ⌜ r ≡ modeByte mode ⌝ }
 {
-    let mode = state.mode;
     match mode {
         Mode::Table => 0,
         Mode::Filling => 1,
@@ -94,6 +83,11 @@ pub fn of_state(state: State) -> u32
     let cycle = with_word(high, state.cycle);
     let position = with_word(cycle, state.position);
     let clock = with_word(position, state.clock);
-    let mode = with_byte(clock, mode_byte(state));
-    with_jobs(with_tasks(mode, state), state)
+    let mode = state.mode;
+    let tasks = with_tasks(
+        with_byte(clock, mode_byte(mode)),
+        &state.periods,
+        &state.runtimes,
+    );
+    with_jobs(tasks, &state.used, &state.ended)
 }

@@ -1,6 +1,6 @@
--- Places beyond the task count do not matter: two lists of one count whose tasks are the same give the same bounds, verdict, table and timings.
+-- Places beyond the task count do not matter: two lists of one count whose tasks are the same give the same bounds, verdict, table and state of a start.
 use mathlib.Core.Path.{_≡_, refl, sym, ap, _∙_}
-use mathlib.Core.Bool.{Bool, _&&_, _||_}
+use mathlib.Core.Bool.{Bool, false, _&&_, _||_}
 use mathlib.Core.List.{List}
 use mathlib.Core.Logic.{⊎-elim}
 use Prim.Native.Nat.{ℕ, zero, suc, _+_, _-_, _/_, _%_, _≤_, _<_}
@@ -29,8 +29,8 @@ use Rattle.verdict.specs.declared.Verdict.the-variants.{Accepted, Refused}
 use Rattle.verdict.specs.Lateness.{received, missing, missedAt, lateBy, earlier, lateness}
 use Rattle.verdict.specs.Margin.{firstEnd, margin, tighter, tightest}
 use Rattle.verdict.specs.Verdict.{judged, verdictFrom, verdictOf}
-use Rattle.start.specs.Start.{timingOf, timings}
-use Rattle.run.specs.State.{noTiming}
+use Rattle.start.specs.Start.{startState}
+use Rattle.run.specs.declared.Mode.{Mode}
 
 -- ---- what is found is below the count
 first-most : (key wants : ℕ → ℕ) (n : ℕ) → first key wants n ≤ n
@@ -191,6 +191,9 @@ module _ (ts us : List Task) (n : ℕ) (same : (i : ℕ) → i < n → taskAt ts
   pub entries-same : (cycle : ℕ) (old : List ℕ) → overwrite (table P) cycle old ≡ overwrite (table Q) cycle old
   entries-same cycle old = overwrite-same (table P) (table Q) old cycle (λ t _. table-same t)
 
-  pub timings-same : timings l ≡ timings m
-  unfolding timings
-  timings-same = overwrite-same _ _ (replicate 16 noTiming) n (λ i li. ap timingOf (same i li))
+  pub state-same : (cycle : ℕ) (mode : Mode) (clock : ℕ) → startState l cycle mode clock ≡ startState m cycle mode clock
+  unfolding startState
+  state-same cycle mode clock =
+      let periods = overwrite-same (λ i. taskAt ts i .period) (λ i. taskAt us i .period) (replicate 16 0) n (λ i li j. same i li j .period) in
+      let runtimes = overwrite-same (λ i. taskAt ts i .runtime) (λ i. taskAt us i .runtime) (replicate 16 0) n (λ i li j. same i li j .runtime) in
+      λ j. record { periods = periods j; runtimes = runtimes j; used = replicate 16 0; ended = replicate 16 false; count = n; cycle = cycle; position = 0; clock = clock; mode = mode }

@@ -25,9 +25,7 @@ use Rattle.verdict.specs.Table.{fitted, tabled, Built}
 use Rattle.start.specs.declared.Asked.{Asked}
 use Rattle.start.specs.declared.Started.{Started}
 use Rattle.start.specs.Start.{modeOf, startState, noRun, begunOf, begunState, begunLog, Begins}
-use Rattle.run.specs.declared.Timing.{Timing}
-use Rattle.run.specs.State.{fresh}
-use Rattle.lent.specs.Beyond.{verdict-same, entries-same, timings-same}
+use Rattle.lent.specs.Beyond.{verdict-same, entries-same, state-same}
 
 -- ---- definitions
 -- The list's sixteen places and one more, so that a count above 16 can still be told.
@@ -100,10 +98,10 @@ module _ (l : TaskList) (few : l .count ≤ 16) where
   few-tabled (Refused number task margin) old = refl
 
   few-state : (asked : Asked) (clock : ℕ) (v : Verdict) (room : ℕ) → begunState (listOf (recordsOf l)) asked clock v room ≡ begunState l asked clock v room
-  unfolding begunState startState
+  unfolding begunState
   few-state asked clock (Accepted cycle jobs task margin) room =
       ap (λ (k : TaskList). choose (ltb room jobs) noRun (startState k cycle (modeOf asked) clock)) made
-      ∙ ap (λ (tasks : List Timing). choose (ltb room jobs) noRun (record { tasks = tasks; jobs = replicate 16 fresh; count = l .count; cycle = cycle; position = 0; clock = clock; mode = modeOf asked })) (timings-same copy (l .tasks) (l .count) copy-at)
+      ∙ ap (choose (ltb room jobs) noRun) (state-same copy (l .tasks) (l .count) copy-at cycle (modeOf asked) clock)
   few-state asked clock (Refused number task margin) room = refl
 
 -- ---- more than sixteen

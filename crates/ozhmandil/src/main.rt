@@ -1,5 +1,4 @@
 // The program: reads a task list from standard input and prints its table, or the refusal, on standard output.
-ghost use mathlib.Core.Path.{_≡_};
 ghost use Prim.Native.Nat.{_≤_};
 ghost use lib.ListN.{length};
 ghost use Rattle.printing.specs.Written.{Written};

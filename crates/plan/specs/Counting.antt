@@ -4,12 +4,12 @@ use mathlib.Core.Path.{_≡_, refl, sym, ap, _∙_}
 use mathlib.Core.Logic.{⊎-elim}
 use Prim.Native.Nat.{ℕ, zero, suc, _+_, _-_, _*_, _/_, _≤_, _<_, _∣_}
 use native.Mathlib.Omega.{arith}
-use native.Mathlib.Nat.{add-assoc, add-zero, zero-add, add-suc, mul-comm, mul-le-mul-right, div-mul-cancel}
+use native.Mathlib.Nat.{add-assoc, add-zero, zero-add, add-suc, mul-le-mul-right, div-mul-cancel, div-mul-le-self}
 use lib.Dec.{eqb}
 use borrow.Author.Tests.{eq-eqb, ne-eqb}
 use Rattle.basis.specs.Choose.{choose-yes, choose-no, eq-or-ne}
-use Rattle.basis.specs.Sum.{sum, sum-zero, sum-add, sum-ext, sum-same, sum-more-at}
-use Rattle.plan.specs.Plan.{Plan, Sound, Monotonic, Demand, release, deadline, OnTime, OnTimeUpTo, HadBy, keyIn, gets, entry, table, given, idles, idle}
+use Rattle.basis.specs.Sum.{sum, sum-zero, sum-add, sum-ext, sum-more-at}
+use Rattle.plan.specs.Plan.{Plan, Sound, Demand, release, deadline, OnTime, OnTimeUpTo, HadBy, keyIn, gets, entry, table, given, idles, idle}
 use Rattle.plan.specs.Work.{gets-one, gets-none, got-wants}
 use Rattle.plan.specs.Run.{lacks, entry-law, given-in-none, given-more, never-more}
 
@@ -97,24 +97,17 @@ module _ (P : Plan) (S : Sound P) (d : Demand) (i : ℕ) (li : i < P .count) whe
         on-time-exact q (P .period i) (on q (omega arith)) (S .due-within i li) (omega arith),
       )
 
--- In the table of a plan with one run-time a task that is on time, over a cycle that its period divides, a task fills
--- exactly run-time times cycle / period entries.
-pub entries-in-cycle : (P : Plan) → Monotonic P → (i cycle : ℕ) → i < P .count → P .period i ∣ cycle → OnTimeUpTo P (P .runtime) cycle
-    → sum (λ t. gets (table P t) i) cycle ≡ P .runtime i 0 * (cycle / P .period i)
-unfolding table given release OnTimeUpTo deadline
-entries-in-cycle P M i cycle li divides on =
+-- Every job that a task has in a cycle has its deadline within it.
+pub deadline-within : (P : Plan) → Sound P → (i k cycle : ℕ) → i < P .count → k < cycle / P .period i → deadline P i k ≤ cycle
+unfolding deadline release
+deadline-within P S i k cycle li lk = omega (arith, S .due-within i li, div-mul-le-self cycle (P .period i), mul-le-mul-right (P .period i) lk)
+
+-- In the table of a plan that is on time, over a cycle that its period divides, a task fills as many entries as its jobs have
+-- run-time in all.
+pub entries-in-cycle : (P : Plan) → Sound P → (i cycle : ℕ) → i < P .count → P .period i ∣ cycle → OnTimeUpTo P (P .runtime) cycle
+    → sum (λ t. gets (table P t) i) cycle ≡ sum (P .runtime i) (cycle / P .period i)
+unfolding table given release OnTimeUpTo
+entries-in-cycle P S i cycle li divides on =
     sum-ext (λ t. gets (entry P (P .runtime) t) i) (λ t. gets (entry P (P .runtime) (0 + t)) i) cycle (λ t _. ap (λ (x : ℕ). gets (entry P (P .runtime) x) i) (sym (zero-add t)))
-    ∙ ap (given P (P .runtime) i 0) (sym whole)
-    ∙ entries-of-jobs P (M .sound) (P .runtime) i li q on-time
-    ∙ sum-ext (P .runtime i) (λ _. P .runtime i 0) q (λ k _. M .one-runtime i k li)
-    ∙ sum-same (P .runtime i 0) q
-    ∙ mul-comm q (P .runtime i 0)
-  where
-    q : ℕ
-    q = cycle / P .period i
-
-    whole : q * P .period i ≡ cycle
-    whole = div-mul-cancel (P .period i) divides
-
-    on-time : (k : ℕ) → k < q → OnTime P (P .runtime) i k
-    on-time k lk = on i k li (omega (arith, whole, M .sound .due-within i li, mul-le-mul-right (P .period i) lk))
+    ∙ ap (given P (P .runtime) i 0) (sym (div-mul-cancel (P .period i) divides))
+    ∙ entries-of-jobs P S (P .runtime) i li (cycle / P .period i) (λ k lk. on i k li (deadline-within P S i k cycle li lk))

@@ -199,10 +199,6 @@ module _ (lack : ℕ → ℕ) (k s : ℕ) where
   unfolding left
   to-come-left l = omega arith
 
-  pub turn-left : sum lack k ≤ s → s < sum lack (suc k) → 0 < left lack k s
-  unfolding left sum
-  turn-left a b = omega arith
-
   one-taken : sum lack k ≤ s → s < sum lack (suc k) → left lack k (suc s) ≡ left lack k s - 1
   unfolding left sum
   one-taken a b = omega arith

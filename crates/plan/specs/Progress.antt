@@ -6,9 +6,10 @@ use Prim.Native.Nat.{ℕ, suc, _+_, _-_, _≤_, _<_, min}
 use native.Mathlib.Omega.{arith}
 use native.Mathlib.Nat.{mul-le-mul-right}
 use Rattle.basis.specs.Choose.{le-or-lt, eq-or-ne}
-use Rattle.plan.specs.Plan.{Plan, Sound, Demand, release, deadline, job, age, gets, had, entry, given}
+use Rattle.plan.specs.Plan.{Plan, Sound, Demand, release, deadline, job, age, gets, had, entry, given, OnTimeUpTo}
 use Rattle.plan.specs.Run.{age-below, release-age, had-since, had-after, given-in-none, given-more}
 use Rattle.plan.specs.Work.{gets-cases}
+use Rattle.plan.specs.Counting.{on-time-exact}
 
 -- How many slices of its window, from release to deadline, lie before slice t.
 unfoldable pub elapsed : Plan → ℕ → ℕ → ℕ → ℕ
@@ -20,10 +21,6 @@ hadUpTo P d i k t = given P d i (release P i k) (elapsed P i k t)
 
 module _ (P : Plan) (S : Sound P) (d : Demand) (i : ℕ) (li : i < P .count) where
   -- releases are a period apart
-  next-release : (k : ℕ) → release P i (suc k) ≡ release P i k + P .period i
-  unfolding release
-  next-release k = omega arith
-
   pub releases-grow : (k m : ℕ) → k < m → release P i k + P .period i ≤ release P i m
   unfolding release
   releases-grow k m l = omega (arith, mul-le-mul-right (P .period i) l)
@@ -59,6 +56,36 @@ module _ (P : Plan) (S : Sound P) (d : Demand) (i : ℕ) (li : i < P .count) whe
   pub settled : (k t : ℕ) → deadline P i k ≤ t → hadUpTo P d i k t ≡ given P d i (release P i k) (P .due i)
   unfolding hadUpTo elapsed deadline
   settled k t l = ap (given P d i (release P i k)) (omega arith)
+
+  -- Where the run is on time, a job has had its demand from its deadline on, and gets no more,
+  module _ (t : ℕ) (on : OnTimeUpTo P d t) where
+    given-whole : P .due i ≤ age P i t → (m : ℕ) → P .due i ≤ m → m ≤ P .period i → given P d i (release P i (job P i t)) m ≡ d i (job P i t)
+    unfolding OnTimeUpTo deadline
+    given-whole past m l h = on-time-exact P S d i li (job P i t) m (on i (job P i t) li (omega (arith, release-age P S i li t))) l h
+
+    pub had-whole : P .due i ≤ age P i t → had P d t i ≡ d i (job P i t)
+    had-whole past = had-since P S d i li t ∙ given-whole past (age P i t) past (omega (arith, age-below P S i li t))
+
+    -- so that the current job has had what the run says after its deadline, too.
+    pub on-time-had : hadUpTo P d i (job P i t) t ≡ had P d t i
+    unfolding deadline
+    on-time-had =
+        ⊎-elim
+        (λ (past : P .due i ≤ age P i t).
+        settled (job P i t) t (omega (arith, release-age P S i li t)) ∙ given-whole past (P .due i) (omega arith) (S .due-within i li) ∙ sym (had-whole past))
+        (λ (before : age P i t < P .due i). current-had t (omega arith))
+        (le-or-lt (P .due i) (age P i t))
+
+    pub on-time-grows : hadUpTo P d i (job P i t) (suc t) ≡ had P d t i + gets (entry P d t) i
+    unfolding deadline
+    on-time-grows =
+        ⊎-elim
+        (λ (past : P .due i ≤ age P i t).
+        settled (job P i t) (suc t) (omega (arith, release-age P S i li t))
+        ∙ given-whole past (P .due i) (omega arith) (S .due-within i li)
+        ∙ sym (had-after P S d i li t ∙ given-whole past (suc (age P i t)) (omega arith) (age-below P S i li t)))
+        (λ (before : age P i t < P .due i). current-grows t before)
+        (le-or-lt (P .due i) (age P i t))
 
 -- What a job has had grows in slices of its own task alone.
 pub grows-in-own : (P : Plan) (d : Demand) (i k t : ℕ) → hadUpTo P d i k t < hadUpTo P d i k (suc t) → entry P d t ≡ suc i

@@ -99,11 +99,6 @@ module _ (n : ℕ) (key wants : ℕ → ℕ) (e : ℕ) (law : IsFirst key wants 
       omega (arith, ap (rank n key) q, ltb-false (rank n key j) (rank n key (k .task)) (sym (rank-tells key n j (k .task) l (k .below)) ∙ k .none-before j l w)))
       law
 
-  -- if somebody wants it, somebody gets it
-  pub some-gets : (j : ℕ) → j < n → 0 < wants j → (i : ℕ) × (e ≡ suc i)
-  unfolding IsFirst
-  some-gets j l w = ⊎-elim (λ (k : NoneWants wants n e). absurd (omega (arith, k .none j l))) (λ (k : FirstTask key wants n e). (k .task, k .is)) law
-
   -- while task i gets the slice, none ranking before it wants one
   pub none-before : (i ρ : ℕ) → e ≡ suc i → ρ ≤ rank n key i → before n key ρ wants ≡ 0
   unfolding before

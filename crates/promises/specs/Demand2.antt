@@ -7,13 +7,13 @@ use mathlib.Core.List.{List}
 use mathlib.Core.Logic.{⊎-elim, _↔_}
 use Prim.Native.Nat.{ℕ, zero, suc, _+_, _-_, _*_, _/_, _≤_, _<_}
 use native.Mathlib.Omega.{arith}
-use native.Mathlib.Nat.{zero-mul, zero-add, sub-self, suc-inj, mod-eq-of-lt, div-eq-of-lt}
+use native.Mathlib.Nat.{zero-mul, zero-add, mul-comm, sub-self, suc-inj, mod-eq-of-lt, div-eq-of-lt}
 use lib.Dec.{eqb, leb}
 use lib.IntN.{ℤ, pos, negsuc, subℕ}
 use lib.ListN.{length, getD}
 use borrow.Author.Tests.{eq-eqb, lt-ltb, le-ltb, leb-true, leb-false}
 use Rattle.basis.specs.Choose.{choose-yes, choose-no, le-or-lt}
-use Rattle.basis.specs.Sum.{sum, sum-ext}
+use Rattle.basis.specs.Sum.{sum, sum-ext, sum-same}
 use Rattle.plan.specs.Counting.{entries-in-cycle}
 use Rattle.basis.specs.Least.{least, least-law}
 use Rattle.basis.specs.Bytes.{overwrite, overwrite-length, overwrite-at, overwrite-kept}
@@ -25,7 +25,7 @@ use Rattle.tasks.specs.declared.TaskList.{TaskList}
 use Rattle.tasks.specs.declared.Bounds.the-variants.{Kept, Broken}
 use Rattle.tasks.specs.List.{planOf}
 use Rattle.tasks.specs.Bounds.{cycleOf, jobsOf}
-use Rattle.tasks.specs.Kept.{KeepsBounds, broken-tells, bounds-kept, plan-monotonic, period-within-cycle, period-divides-cycle}
+use Rattle.tasks.specs.Kept.{KeepsBounds, broken-tells, bounds-kept, plan-sound, plan-monotonic, period-within-cycle, period-divides-cycle}
 use Rattle.verdict.specs.declared.Verdict.{Verdict}
 use Rattle.verdict.specs.declared.Verdict.the-variants.{Accepted, Refused}
 use Rattle.verdict.specs.Lateness.{received, missing, missedAt}
@@ -74,7 +74,7 @@ module _ (l : TaskList) (supply : ℕ) (K : KeepsBounds l supply) where
 
   within-cycle : (i : ℕ) → i < planOf l .count → planOf l .due i ≤ cycleOf l
   unfolding planOf
-  within-cycle i li = period-within-cycle l supply K i li
+  within-cycle i li = omega (arith, plan-sound l supply K .due-within i li, period-within-cycle l supply K i li)
 
   -- and that is exactly if every task passes the test of Lehoczky, Sha and Ding.
   pub accepted-exactly : (numbers (verdictOf l supply) .number ≡ 0) ↔ AllPass (planOf l)
@@ -325,4 +325,6 @@ module _ (l : TaskList) (supply : ℕ) (K : KeepsBounds l supply) (old new : Lis
       let T = table-is z in
       let on = accepted-on-time l supply K .0 (list-accepted l supply old new v B z) in
       sum-ext (λ t. gets (getD new t 0) i) (λ t. gets (table (planOf l) t) i) (cycleOf l) (λ t lt. ap (λ (e : ℕ). gets e i) (T .entries t lt))
-      ∙ entries-in-cycle (planOf l) (plan-monotonic l supply K) i (cycleOf l) li (period-divides-cycle l supply K i li) on
+      ∙ entries-in-cycle (planOf l) (plan-sound l supply K) i (cycleOf l) li (period-divides-cycle l supply K i li) on
+      ∙ sum-same (planOf l .runtime i 0) (cycleOf l / planOf l .period i)
+      ∙ mul-comm (cycleOf l / planOf l .period i) (planOf l .runtime i 0)

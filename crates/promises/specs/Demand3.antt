@@ -2,26 +2,26 @@
 -- full run of either kind each job that needs no more than it declared is logged done, each other one over, none late, none
 -- without a result. Filling freed slices ends no job later than the run by the table with the same needs; and no job of a
 -- filling run ends later when needs are lowered, whichever jobs they belong to.
-use mathlib.Core.Path.{_≡_, refl, sym, ap, ap₂, _∙_}
+use mathlib.Core.Path.{_≡_, refl, sym, ap, _∙_}
 use mathlib.Core.List.{List}
 use mathlib.Core.Bool.{Bool, true, not, true≢false}
 use mathlib.Core.Logic.{⊎-elim}
 use Prim.Native.Nat.{ℕ, zero, suc, _+_, _*_, _/_, _≤_, _<_}
 use native.Mathlib.Omega.{arith}
-use native.Mathlib.Nat.{div-mul-le-self, div-mul-cancel, mul-le-mul-right}
+use native.Mathlib.Nat.{div-mul-cancel}
 use lib.Dec.{eqb, leb}
 use lib.ListN.{length, getD}
 use borrow.Author.Tests.{eq-eqb, ne-eqb}
 use Rattle.basis.specs.Choose.{choose, le-or-lt, eq-or-ne}
-use Rattle.basis.specs.Sum.{sum-ext}
 use Rattle.basis.specs.Least.{least, least-law}
-use Rattle.plan.specs.Plan.{Monotonic, Demand, release, deadline, entry, takes, HadBy, OnTime, OnTimeUpTo}
+use Rattle.plan.specs.Plan.{Sound, Demand, release, deadline, entry, takes, HadBy, OnTime, OnTimeUpTo}
+use Rattle.plan.specs.Counting.{deadline-within}
 use Rattle.plan.specs.Progress.{elapsed, hadUpTo, settled, nothing-before-release, grows-in-own}
 use Rattle.plan.specs.Domination.{filling-ends-no-later, lower-needs-delay-none}
 use Rattle.tasks.specs.declared.TaskList.{TaskList}
-use Rattle.tasks.specs.List.{taskAt, planOf}
-use Rattle.tasks.specs.Bounds.{cycleOf, jobSum, jobsOf}
-use Rattle.tasks.specs.Kept.{plan-monotonic, cycle-pos, period-divides-cycle}
+use Rattle.tasks.specs.List.{planOf}
+use Rattle.tasks.specs.Bounds.{cycleOf, jobsOf}
+use Rattle.tasks.specs.Kept.{plan-sound, cycle-pos, period-divides-cycle}
 use Rattle.start.specs.declared.Asked.{Asked}
 use Rattle.run.specs.declared.Mode.the-variants.{Table, Filling}
 use Rattle.run.specs.State.{offset, jobCount}
@@ -30,7 +30,7 @@ use Rattle.start.specs.Start.{modeOf, begunNumbers}
 use Rattle.promises.specs.Drive.{Own, Drive, placeOf, isLogged, endIn}
 use Rattle.promises.specs.Reached.{Reached, resultByte, result-some, byteUpTo, byte-result, byte-none}
 use Rattle.promises.specs.Driven.{demandOf, run-enough, run-on-time, reaches, none-refused}
-use Rattle.promises.specs.Begun.{Accepted, start-accepted, start-reached}
+use Rattle.promises.specs.Begun.{Accepted, start-accepted, takes-some, offset-listed, start-reached}
 
 -- ---- every slice of a drive
 module _ (l : TaskList) (supply : ℕ) (asked : Asked) (clock : ℕ) (need : Demand) (needs : (i k : ℕ) → i < l .count → 1 ≤ need i k)
@@ -38,15 +38,14 @@ module _ (l : TaskList) (supply : ℕ) (asked : Asked) (clock : ℕ) (need : Dem
   A : Accepted l supply asked clock log (D .logs 0) (D .begun)
   A = start-accepted l supply asked clock log (D .logs 0) (D .begun) (D .begins) ok
 
-  M : Monotonic (planOf l)
-  M = plan-monotonic l supply (A .keeps)
+  S : Sound (planOf l)
+  S = plan-sound l supply (A .keeps)
+
+  some : (i k : ℕ) → i < l .count → 1 ≤ takes (planOf l) need i k
+  some = takes-some l supply (A .keeps) need needs
 
   abbrev d : Demand
   d = demandOf (modeOf asked) (planOf l) need
-
-  whole : (i : ℕ) → i < planOf l .count → planOf l .due i ≡ planOf l .period i
-  unfolding planOf
-  whole i li = refl
 
   begun-reached : Reached (planOf l) (cycleOf l) need d (modeOf asked) log 0 (D .states 0) (D .logs 0)
   begun-reached =
@@ -55,42 +54,30 @@ module _ (l : TaskList) (supply : ℕ) (asked : Asked) (clock : ℕ) (need : Dem
 
   reached : (p : ℕ) → p ≤ cycleOf l → Reached (planOf l) (cycleOf l) need d (modeOf asked) log p (D .states p) (D .logs p)
   unfolding planOf
-  reached p lp = reaches (planOf l) M whole (cycleOf l) need needs (A .on-time) tab own log (D .states) (D .logs) (D .answers) (D .steps) (modeOf asked) begun-reached p lp
+  reached p lp = reaches (planOf l) S (cycleOf l) need some (A .on-time) tab own log (D .states) (D .logs) (D .answers) (D .steps) (modeOf asked) begun-reached p lp
 
   -- No step of a drive is refused.
   pub no-step-refused : (p : ℕ) → p < cycleOf l → closedNumber (D .answers p .answer) ≡ 0
   unfolding planOf closedNumber
-  no-step-refused p lp = ap closedNumber (none-refused (planOf l) M whole (cycleOf l) need needs (A .on-time) tab own log (D .states) (D .logs) (D .answers) (D .steps) (modeOf asked) begun-reached p lp)
+  no-step-refused p lp = ap closedNumber (none-refused (planOf l) S (cycleOf l) need some (A .on-time) tab own log (D .states) (D .logs) (D .answers) (D .steps) (modeOf asked) begun-reached p lp)
 
   -- the places of the jobs stay where the list puts them
-  offset-is : (p : ℕ) → p ≤ cycleOf l → (i : ℕ) → i ≤ l .count → offset (D .states p) i ≡ jobSum (l .tasks) (cycleOf l) i
-  unfolding offset jobSum planOf
-  offset-is p lp i li =
-      let C = reached p lp .carries in
-      sum-ext _ _ i (λ j lj. ap₂ _/_ (C .cycle-is) (C .period-is j (omega arith)))
-
   byte-at : (p : ℕ) → p ≤ cycleOf l → (i k : ℕ) → i < l .count → k < cycleOf l / planOf l .period i → getD (D .logs p) (placeOf l i k) 0 ≡ byteUpTo (planOf l) need d i k p
   unfolding placeOf planOf
-  byte-at p lp i k li lk = ap (λ (x : ℕ). getD (D .logs p) (x + k) 0) (sym (offset-is p lp i (omega arith))) ∙ reached p lp .bytes-are i k li lk
-
-  -- every job's deadline lies within the cycle
-  deadline-within : (i k : ℕ) → i < l .count → k < cycleOf l / planOf l .period i → deadline (planOf l) i k ≤ cycleOf l
-  unfolding deadline release planOf
-  deadline-within i k li lk =
-      omega (arith, div-mul-le-self (cycleOf l) (taskAt (l .tasks) i .period), mul-le-mul-right (taskAt (l .tasks) i .period) lk)
+  byte-at p lp i k li lk = ap (λ (x : ℕ). getD (D .logs p) (x + k) 0) (sym (offset-listed l (D .states p) (reached p lp .carries) i (omega arith))) ∙ reached p lp .bytes-are i k li lk
 
   has-ended : (i k : ℕ) → i < l .count → k < cycleOf l / planOf l .period i → takes (planOf l) need i k ≤ hadUpTo (planOf l) d i k (cycleOf l)
   unfolding planOf OnTimeUpTo OnTime HadBy
   has-ended i k li lk =
       omega (
         arith,
-        settled (planOf l) (M .sound) d i li k (cycleOf l) (deadline-within i k li lk),
-        on-time-run i k li (deadline-within i k li lk),
+        settled (planOf l) S d i li k (cycleOf l) (deadline-within (planOf l) S i k (cycleOf l) li lk),
+        on-time-run i k li (deadline-within (planOf l) S i k (cycleOf l) li lk),
         enough-run i k li,
       )
     where
       on-time-run : OnTimeUpTo (planOf l) (demandOf (modeOf asked) (planOf l) need) (cycleOf l)
-      on-time-run = run-on-time (planOf l) M (cycleOf l) need (A .on-time) (modeOf asked)
+      on-time-run = run-on-time (planOf l) S (cycleOf l) need (A .on-time) (modeOf asked)
 
       enough-run : (i k : ℕ) → i < l .count → takes (planOf l) need i k ≤ demandOf (modeOf asked) (planOf l) need i k
       enough-run i k li = run-enough (planOf l) need (modeOf asked) i k
@@ -119,7 +106,7 @@ module _ (l : TaskList) (supply : ℕ) (asked : Asked) (clock : ℕ) (need : Dem
   unfolding jobsOf jobCount planOf
   beyond-kept x lx =
       let R = reached (cycleOf l) (omega arith) in
-      R .beyond x (omega (arith, ap (offset (D .states (cycleOf l))) (R .carries .count-is), offset-is (cycleOf l) (omega arith) (l .count) (omega arith)))
+      R .beyond x (omega (arith, ap (offset (D .states (cycleOf l))) (R .carries .count-is), offset-listed l (D .states (cycleOf l)) (R .carries) (l .count) (omega arith)))
 
   pub length-kept : length (D .logs (cycleOf l)) ≡ length log
   length-kept = reached (cycleOf l) (omega arith) .long
@@ -144,10 +131,6 @@ module _ (l : TaskList) (supply : ℕ) (asked : Asked) (clock : ℕ) (need : Dem
   pub record EndsIn (i k p : ℕ) : Type 0 where
     pub end-is : endIn l (D .logs) i k ≡ suc p
     pub own-slice : entry (planOf l) d p ≡ suc i
-
-  takes-some : (i k : ℕ) → i < l .count → 1 ≤ takes (planOf l) need i k
-  unfolding takes planOf
-  takes-some i k li = omega (arith, needs i k li, M .runtime-pos i li)
 
   -- logged at its end,
   logged-at-end : (i k : ℕ) → i < l .count → k < cycleOf l / planOf l .period i → isLogged l (D .logs) i k (endIn l (D .logs) i k) ≡ true
@@ -181,7 +164,7 @@ module _ (l : TaskList) (supply : ℕ) (asked : Asked) (clock : ℕ) (need : Dem
       had-at-end = logged-has (endIn l (D .logs) i k) (end-within i k) i k li lk (logged-at-end i k li lk)
 
       go : (e : ℕ) → endIn l (D .logs) i k ≡ e → (p : ℕ) × EndsIn i k p
-      go zero e = absurd (omega (arith, had-at-end, ap (hadUpTo (planOf l) d i k) e, nothing-before-release (planOf l) (M .sound) d i li k 0 (omega arith), takes-some i k li))
+      go zero e = absurd (omega (arith, had-at-end, ap (hadUpTo (planOf l) d i k) e, nothing-before-release (planOf l) S d i li k 0 (omega arith), some i k li))
       go (suc p) e = (
         p,
         record {
@@ -235,11 +218,6 @@ module _ (l : TaskList) (supply supply′ : ℕ) (asked asked′ : Asked) (clock
       has-logged l supply′ asked′ clock′ need′ needs′ tab′ log′ own′ D′ ok′ p lp i k li lk
       (h i k p li lk lp (logged-has l supply asked clock need needs tab log own D ok p lp i k li lk t)))
 
-  within-window : (i k p : ℕ) → i < l .count → k < cycleOf l / planOf l .period i → p ≤ cycleOf l → release (planOf l) i k + elapsed (planOf l) i k p ≤ cycleOf l
-  unfolding elapsed release planOf
-  within-window i k p li lk lp =
-      omega (arith, div-mul-le-self (cycleOf l) (taskAt (l .tasks) i .period), mul-le-mul-right (taskAt (l .tasks) i .period) lk)
-
   abbrev begun-as : Accepted l supply asked clock log (D .logs 0) (D .begun)
   begun-as = start-accepted l supply asked clock log (D .logs 0) (D .begun) (D .begins) ok
 
@@ -247,14 +225,18 @@ module _ (l : TaskList) (supply supply′ : ℕ) (asked asked′ : Asked) (clock
   unfolding elapsed
   within-due i k p = omega arith
 
+  within-window : (i k p : ℕ) → i < l .count → k < cycleOf l / planOf l .period i → release (planOf l) i k + elapsed (planOf l) i k p ≤ cycleOf l
+  unfolding deadline planOf
+  within-window i k p li lk = omega (arith, within-due i k p, deadline-within (planOf l) (plan-sound l supply (begun-as .keeps)) i k (cycleOf l) li lk)
+
   -- Filling freed slices ends no job later than the run by the table with the same needs.
   pub filling-no-later : modeOf asked ≡ Table → modeOf asked′ ≡ Filling → need′ ≡ need → (i k : ℕ) → i < l .count → k < cycleOf l / planOf l .period i → endIn l (D′ .logs) i k ≤ endIn l (D .logs) i k
   unfolding demandOf hadUpTo HadBy planOf
   filling-no-later et ef en = no-later (λ i k p li lk lp h.
-      rw (ef, en) (filling-ends-no-later (planOf l) (plan-monotonic l supply (begun-as .keeps) .sound) (cycleOf l) (begun-as .on-time) need i k (elapsed (planOf l) i k p) li (within-due i k p) (within-window i k p li lk lp) (rw et at h)))
+      rw (ef, en) (filling-ends-no-later (planOf l) (plan-sound l supply (begun-as .keeps)) (cycleOf l) (begun-as .on-time) need i k (elapsed (planOf l) i k p) li (within-due i k p) (within-window i k p li lk) (rw et at h)))
 
   -- No job of a filling run ends later when needs are lowered, whichever jobs they belong to.
   pub lower-no-later : modeOf asked ≡ Filling → modeOf asked′ ≡ Filling → ((i k : ℕ) → i < l .count → need′ i k ≤ need i k) → (i k : ℕ) → i < l .count → k < cycleOf l / planOf l .period i → endIn l (D′ .logs) i k ≤ endIn l (D .logs) i k
   unfolding demandOf hadUpTo HadBy planOf
   lower-no-later e e′ less = no-later (λ i k p li lk lp h.
-      rw e′ (lower-needs-delay-none (planOf l) (plan-monotonic l supply (begun-as .keeps) .sound) (cycleOf l) (begun-as .on-time) need need′ less i k (elapsed (planOf l) i k p) li (within-due i k p) (within-window i k p li lk lp) (rw e at h)))
+      rw e′ (lower-needs-delay-none (planOf l) (plan-sound l supply (begun-as .keeps)) (cycleOf l) (begun-as .on-time) need need′ less i k (elapsed (planOf l) i k p) li (within-due i k p) (within-window i k p li lk) (rw e at h)))

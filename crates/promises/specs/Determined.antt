@@ -3,9 +3,12 @@
 -- the contract of the function they go to, with the list of the records, so its theorem is theirs.
 use mathlib.Core.Path.{_≡_, sym, ap, ap₂, _∙_}
 use mathlib.Core.List.{List}
+use mathlib.Core.Bool.{Bool}
 use Prim.Native.Nat.{ℕ}
+use lib.Dec.{ltb}
 use lib.IntN.{ℤ}
 use lib.ListN.{take}
+use Rattle.basis.specs.Choose.{choose}
 use Rattle.tasks.specs.declared.TaskList.{TaskList}
 use Rattle.tasks.specs.declared.Bounds.{Bounds}
 use Rattle.tasks.specs.Bounds.{boundsOf}
@@ -21,7 +24,8 @@ use Rattle.run.specs.declared.Runner.{Runner}
 use Rattle.run.specs.declared.Closed.{Closed}
 use Rattle.run.specs.declared.Next.{Next}
 use Rattle.run.specs.Who.{whoOf}
-use Rattle.run.specs.Step.{Stepped}
+use Rattle.run.specs.State.{placeIn}
+use Rattle.run.specs.Step.{Stepped, SteppedIn}
 use Rattle.readings.specs.declared.Entry.{Entry}
 use Rattle.readings.specs.declared.Refusal.{Refusal}
 use Rattle.readings.specs.declared.Logged.{Logged}
@@ -72,6 +76,15 @@ pub step : (s : State) (table : List ℕ) (clock report : ℕ) (log new new′ :
     → Stepped s table clock report log new r → Stepped s table clock report log new′ r′ → (r ≡ r′) × (new ≡ new′)
 step s table clock report log new new′ r r′ S S′ =
     (ap₂ (λ (a : Closed) (x : State). record { answer = a; state = x }) (one-answer (S .answer) (S′ .answer)) (one-answer (S .state) (S′ .state)), one-answer (S .bytes) (S′ .bytes))
+
+-- run: step_in_place, with the arrays and the log; place
+pub step-in-place : (s : State) (table : List ℕ) (clock report : ℕ) (log new new′ used used′ : List ℕ) (ended ended′ : List Bool) (r r′ : Closed)
+    → SteppedIn s table clock report log new used ended r → SteppedIn s table clock report log new′ used′ ended′ r′ → (r ≡ r′) × (new ≡ new′) × (used ≡ used′) × (ended ≡ ended′)
+step-in-place s table clock report log new new′ used used′ ended ended′ r r′ S S′ =
+    (one-answer (S .answer) (S′ .answer), one-answer (S .bytes) (S′ .bytes), one-answer (S .used) (S′ .used), one-answer (S .ended) (S′ .ended))
+
+pub place : (periods : List ℕ) (cycle position i r r′ : ℕ) → r ≡ choose (ltb i 16) (placeIn periods cycle position i) 0 → r′ ≡ choose (ltb i 16) (placeIn periods cycle position i) 0 → r ≡ r′
+place periods cycle position i r r′ e e′ = one-answer e e′
 
 -- readings: read_entry, read_refusal, read_logged
 pub read-entry : (byte count : ℕ) (r r′ : Entry) → r ≡ entryOf byte count → r′ ≡ entryOf byte count → r ≡ r′

@@ -3,7 +3,7 @@
 use mathlib.Core.Path.{_≡_}
 use mathlib.Core.List.{List}
 use mathlib.Core.Bool.{Bool, not}
-use Prim.Native.Nat.{ℕ, zero, suc, _+_, _/_, _≤_, _<_}
+use Prim.Native.Nat.{ℕ, zero, suc, _+_, _≤_, _<_}
 use lib.Dec.{eqb}
 use lib.ListN.{length, getD}
 use Rattle.basis.specs.Choose.{choose}
@@ -16,14 +16,14 @@ use Rattle.start.specs.Start.{Begins}
 use Rattle.plan.specs.Plan.{Plan, Demand, table}
 use Rattle.run.specs.declared.State.{State}
 use Rattle.run.specs.declared.Next.{Next}
-use Rattle.run.specs.State.{periodOf, jobOf}
+use Rattle.run.specs.State.{currentOf, jobOf}
 use Rattle.run.specs.Who.{running}
 use Rattle.run.specs.Step.{nextClock, Stepped}
 
 -- A job reports finished, 1, exactly in the slice where its count reaches its need.
 unfoldable pub reportOf : Demand → State → ℕ → ℕ
 reportOf need s zero = 0
-reportOf need s (suc i) = choose (eqb (jobOf s i .used + 1) (need i (s .position / periodOf s i))) 1 0
+reportOf need s (suc i) = choose (eqb (jobOf s i .used + 1) (need i (currentOf s i))) 1 0
 
 -- The table is the plan's own up to the cycle's end.
 pub record Own (P : Plan) (cycle : ℕ) (tab : List ℕ) : Type 0 where

@@ -3,27 +3,29 @@ use mathlib.Core.Path.{_≡_, refl, sym, ap, subst, _∙_}
 use mathlib.Core.List.{List}
 use mathlib.Core.Bool.{Bool, true, false}
 use mathlib.Core.Logic.{⊎-elim}
-use Prim.Native.Nat.{ℕ, zero, suc, _+_, _/_, _≤_, _<_}
+use Prim.Native.Nat.{ℕ, zero, suc, _+_, _≤_, _<_}
 use native.Mathlib.Omega.{arith}
 use lib.Dec.{eqb}
 use borrow.Author.Tests.{le-leb, lt-leb}
 use lib.ListN.{getD}
 use Rattle.basis.specs.Choose.{choose, choose-yes, choose-no, le-or-lt}
-use Rattle.plan.specs.Plan.{Plan, Monotonic, Demand, job, keyIn, pick, had, entry, takes, table, first, OnTimeUpTo}
+use Rattle.plan.specs.Plan.{Plan, Sound, Demand, job, age, keyIn, pick, had, entry, takes, table, first, OnTimeUpTo}
 use Rattle.plan.specs.Rank.{first-same}
-use Rattle.plan.specs.Run.{age-below, lacks, lacks-open, lacks-most, had-room}
+use Rattle.plan.specs.Run.{lacks, lacks-open, lacks-most, had-room}
+use Rattle.plan.specs.Progress.{had-whole}
 use Rattle.plan.specs.Counting.{entry-within}
 use Rattle.run.specs.declared.Mode.{Mode}
 use Rattle.run.specs.declared.Mode.the-variants.{Table, Filling}
 use Rattle.run.specs.declared.State.{State}
 use Rattle.run.specs.declared.Next.{Next}
 use Rattle.run.specs.declared.Closed.the-variants.{Accepted}
-use Rattle.plan.specs.Domination.{filling-on-time}
-use Rattle.run.specs.State.{periodOf, jobOf}
+use Rattle.plan.specs.Domination.{on-time-before, filling-on-time}
+use Rattle.run.specs.State.{keyOf, currentOf, jobOf}
 use Rattle.run.specs.Who.{unlessEnded, firstOpen, runningBy, running}
 use Rattle.run.specs.Step.{nextClock, stateAfter}
 use Rattle.run.specs.Accepted.{StepAccepted, step-answers}
 use Rattle.promises.specs.Drive.{reportOf, Own, Steps}
+use Rattle.promises.specs.Carries.{key-now}
 use Rattle.promises.specs.Reached.{Reached, reached-next}
 
 -- ---- who runs
@@ -32,10 +34,10 @@ unfoldable pub demandOf : Mode → Plan → Demand → Demand
 demandOf Table P need = P .runtime
 demandOf Filling P need = takes P need
 
-module _ (P : Plan) (M : Monotonic P) (whole : (i : ℕ) → i < P .count → P .due i ≡ P .period i) (cycle : ℕ) (need : Demand)
+module _ (P : Plan) (S : Sound P) (cycle : ℕ) (need : Demand)
     (start : List ℕ) (p : ℕ) (s : State) (g : List ℕ) where
   -- Filling, the first-ranking open job is the entry of the filling run, which it has not ended.
-  module _ (R : Reached P cycle need (takes P need) Filling start p s g) where
+  module _ (on : OnTimeUpTo P (takes P need) p) (R : Reached P cycle need (takes P need) Filling start p s g) where
     abbrev b : Demand
     b = takes P need
 
@@ -58,26 +60,31 @@ module _ (P : Plan) (M : Monotonic P) (whole : (i : ℕ) → i < P .count → P 
         (λ (l : had P b p i < b i (job P i p)). absurd (omega (arith, choose-no {A = ℕ} (jobOf s i .ended) 0 1 (open-if i li l))))
         (le-or-lt (b i (job P i p)) (had P b p i))
 
+    -- (once its deadline is past it lacks nothing, and has ended since the run is on time)
     lacking-none : (i : ℕ) → i < P .count → lacks P b b p i ≡ 0 → still-open i ≡ 0
     lacking-none i li z =
-        choose-yes (jobOf s i .ended) 0 1 (ended-if i li (omega (arith, lacks-open P b b p i (omega (arith, whole i li, age-below P (M .sound) i li p)))))
+        choose-yes (jobOf s i .ended) 0 1
+        (ended-if i li
+        (⊎-elim
+        (λ (past : P .due i ≤ age P i p). omega (arith, had-whole P S b i li p on past))
+        (λ (before : age P i p < P .due i). omega (arith, lacks-open P b b p i before))
+        (le-or-lt (P .due i) (age P i p))))
 
-    keys : (i : ℕ) → i < P .count → periodOf s i ≡ keyIn P p i
-    unfolding keyIn
-    keys i li = R .carries .period-is i li ∙ sym (M .by-deadline i (job P i p) li ∙ whole i li)
+    abbrev keys : ℕ → ℕ
+    keys i = keyOf s i (currentOf s i)
 
     first-open-is : firstOpen s ≡ entry P b p
-    unfolding firstOpen entry pick lacks
+    unfolding firstOpen entry pick lacks keyIn
     first-open-is =
-        ap (first (periodOf s) still-open) (R .carries .count-is)
-        ∙ first-same (periodOf s) (keyIn P p) still-open (lacks P b b p) (P .count) keys none-lacking lacking-none
+        ap (first keys still-open) (R .carries .count-is)
+        ∙ first-same keys (keyIn P p) still-open (lacks P b b p) (P .count) (key-now (R .carries) (R .position-is)) none-lacking lacking-none
 
     entry-open : (e : ℕ) → entry P b p ≡ e → e ≡ unlessEnded s e
     unfolding unlessEnded
     entry-open zero q = refl
     entry-open (suc i) q =
         let li : i < P .count = omega (arith, entry-within P b p) in
-        sym (choose-no (jobOf s i .ended) 0 (suc i) (open-if i li (had-room P (M .sound) b i li p q)))
+        sym (choose-no (jobOf s i .ended) 0 (suc i) (open-if i li (had-room P S b i li p q)))
 
     pub filling-runs : (tab : List ℕ) → running s tab ≡ unlessEnded s (entry P b p)
     unfolding running runningBy
@@ -94,7 +101,7 @@ module _ (need : Demand) (s : State) where
   report-most : (e : ℕ) → reportOf need s e ≤ 1
   unfolding reportOf choose
   report-most zero = omega arith
-  report-most (suc i) = go (eqb (jobOf s i .used + 1) (need i (s .position / periodOf s i)))
+  report-most (suc i) = go (eqb (jobOf s i .used + 1) (need i (currentOf s i)))
     where
       go : (t : Bool) → choose {A = ℕ} t 1 0 ≤ 1
       go true = omega arith
@@ -131,29 +138,29 @@ unfolding demandOf takes
 run-enough P need Table i k = omega arith
 run-enough P need Filling i k = omega arith
 
-pub run-on-time : (P : Plan) → Monotonic P → (cycle : ℕ) (need : Demand) → OnTimeUpTo P (P .runtime) cycle → (m : Mode) → OnTimeUpTo P (demandOf m P need) cycle
+pub run-on-time : (P : Plan) → Sound P → (cycle : ℕ) (need : Demand) → OnTimeUpTo P (P .runtime) cycle → (m : Mode) → OnTimeUpTo P (demandOf m P need) cycle
 unfolding demandOf
-run-on-time P M cycle need on Table = on
-run-on-time P M cycle need on Filling = filling-on-time P (M .sound) cycle on need
+run-on-time P S cycle need on Table = on
+run-on-time P S cycle need on Filling = filling-on-time P S cycle on need
 
-module _ (P : Plan) (M : Monotonic P) (whole : (i : ℕ) → i < P .count → P .due i ≡ P .period i) (cycle : ℕ)
-    (need : Demand) (needs : (i k : ℕ) → i < P .count → 1 ≤ need i k) (on : OnTimeUpTo P (P .runtime) cycle)
-    (tab : List ℕ) (own : Own P cycle tab) (start : List ℕ) (s : ℕ → State) (g : ℕ → List ℕ) (r : ℕ → Next) (S : Steps cycle tab need s g r) where
+module _ (P : Plan) (S : Sound P) (cycle : ℕ)
+    (need : Demand) (some : (i k : ℕ) → i < P .count → 1 ≤ takes P need i k) (on : OnTimeUpTo P (P .runtime) cycle)
+    (tab : List ℕ) (own : Own P cycle tab) (start : List ℕ) (s : ℕ → State) (g : ℕ → List ℕ) (r : ℕ → Next) (D : Steps cycle tab need s g r) where
   runs-as : (m : Mode) (p : ℕ) → p < cycle → Reached P cycle need (demandOf m P need) m start p (s p) (g p) → running (s p) tab ≡ unlessEnded (s p) (entry P (demandOf m P need) p)
   unfolding demandOf
-  runs-as Table p lp R = table-runs P M whole cycle need start p (s p) (g p) tab own lp R
-  runs-as Filling p lp R = filling-runs P M whole cycle need start p (s p) (g p) R tab
+  runs-as Table p lp R = table-runs P S cycle need start p (s p) (g p) tab own lp R
+  runs-as Filling p lp R = filling-runs P S cycle need start p (s p) (g p) (on-time-before P (takes P need) p cycle (omega arith) (filling-on-time P S cycle on need)) R tab
 
   -- a step of the drive is accepted and leads on
   one-step : (m : Mode) (p : ℕ) → p < cycle → Reached P cycle need (demandOf m P need) m start p (s p) (g p)
       → (r p .answer ≡ Accepted) × Reached P cycle need (demandOf m P need) m start (suc p) (s (suc p)) (g (suc p))
   one-step m p lp R =
       let A = drive-accepted P cycle need (demandOf m P need) m start p lp (s p) (g p) R tab own in
-      let a = step-answers (s p) tab (nextClock (s p .clock)) (reportOf need (s p) (running (s p) tab)) (g p) (g (suc p)) (r p) A (S .stepped p lp) in (
+      let a = step-answers (s p) tab (nextClock (s p .clock)) (reportOf need (s p) (running (s p) tab)) (g p) (g (suc p)) (r p) A (D .stepped p lp) in (
         a .0,
-        subst (λ (x : State). Reached P cycle need (demandOf m P need) m start (suc p) x (g (suc p))) (sym (S .handed p lp ∙ a .1))
+        subst (λ (x : State). Reached P cycle need (demandOf m P need) m start (suc p) x (g (suc p))) (sym (D .handed p lp ∙ a .1))
             (subst (λ (x : List ℕ). Reached P cycle need (demandOf m P need) m start (suc p) (stateAfter (s p) (running (s p) tab) (nextClock (s p .clock)) (reportOf need (s p) (running (s p) tab))) x) (sym (a .2))
-            (reached-next P M whole cycle need (demandOf m P need) needs (λ i k li. run-enough P need m i k) (run-on-time P M cycle need on m) m start p lp (s p) (g p) R tab (runs-as m p lp R) A)),
+            (reached-next P S cycle need (demandOf m P need) some (λ i k li. run-enough P need m i k) (run-on-time P S cycle need on m) m start p lp (s p) (g p) R tab (runs-as m p lp R) A)),
       )
 
   -- From the start on the drive reaches every slice of the cycle,

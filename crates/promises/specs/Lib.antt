@@ -1,6 +1,7 @@
 -- The demands, stated of the definitions that the public contracts cite.
 pub mod Demand1
 pub mod Drive
+pub mod Carries
 pub mod Reached
 pub mod Driven
 pub mod Earned

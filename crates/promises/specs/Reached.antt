@@ -1,37 +1,32 @@
 -- What the state and the log of a drive are before each slice: the jobs as far as the plan's run has brought them.
-use mathlib.Core.Path.{_≡_, sym, ap, ap₂, subst, _∙_}
+use mathlib.Core.Path.{_≡_, sym, ap, subst, _∙_}
 use mathlib.Core.List.{List}
-use mathlib.Core.Bool.{Bool, true, false, _||_}
+use mathlib.Core.Bool.{true, false, _||_}
 use mathlib.Core.Logic.{⊎-elim}
-use Prim.Native.Nat.{ℕ, zero, suc, _+_, _/_, _%_, _≤_, _<_, min}
+use Prim.Native.Nat.{ℕ, zero, suc, _+_, _/_, _≤_, _<_, min}
 use native.Mathlib.Omega.{arith}
 use lib.Dec.{eqb, leb}
 use borrow.Author.Tests.{eq-eqb, ne-eqb, le-leb, lt-leb}
 use lib.ListN.{length, getD}
 use Rattle.basis.specs.Choose.{choose, choose-yes, choose-no, bool-cases, le-or-lt, eq-or-ne}
-use Rattle.plan.specs.Plan.{Plan, Monotonic, Demand, job, age, gets, had, entry, takes, OnTimeUpTo}
+use Rattle.plan.specs.Plan.{Plan, Sound, Demand, job, age, gets, had, entry, takes, OnTimeUpTo}
 use Rattle.plan.specs.Work.{gets-one, gets-none, gets-cases}
-use Rattle.run.specs.Places.{job-in-cycle}
-use Rattle.plan.specs.Progress.{hadUpTo, current-had, current-grows, others-stay}
+use Rattle.plan.specs.Progress.{hadUpTo, on-time-had, on-time-grows, others-stay}
 use Rattle.plan.specs.Domination.{had-by-deadline, on-time-before}
-use Rattle.plan.specs.Run.{goes-on-or-ends, age-goes-on, job-goes-on as job-stays, age-anew, age-below, had-goes-on, had-anew}
-use Rattle.run.specs.declared.Job.{Job}
+use Rattle.plan.specs.Run.{goes-on-or-ends, job-goes-on as job-stays, had-goes-on, had-anew}
 use Rattle.run.specs.declared.Mode.{Mode}
 use Rattle.run.specs.declared.State.{State}
-use Rattle.run.specs.State.{fresh, periodOf, runtimeOf, jobOf, offset, jobCount, place, lastSlice}
+use Rattle.run.specs.State.{Job, fresh, runtimeOf, currentOf, jobOf, deadlineNext, offset, jobCount, place}
 use Rattle.run.specs.Who.{unlessEnded, running}
 use Rattle.run.specs.Step.{nextClock, afterSlice, jobAfter, stateAfter, logAfter}
 use Rattle.run.specs.Sound.{SoundState}
 use Rattle.run.specs.Accepted.{StepAccepted}
-use Rattle.run.specs.LogAfter.{log-length, log-other-job, log-beyond, log-done, log-over, log-open, log-ended}
-use Rattle.run.specs.StateAfter.{slice-here, slice-elsewhere, job-anew, job-goes-on, HandedOn, handed-on, job-after, state-after-sound}
+use Rattle.run.specs.LogAfter.{log-length, log-beyond, log-done, log-over, log-open, log-ended}
+use Rattle.run.specs.StateAfter.{slice-here, slice-elsewhere, job-anew, job-goes-on, HandedOn, handed-on, state-after-sound}
 use Rattle.promises.specs.Drive.{reportOf}
+use Rattle.promises.specs.Carries.{Carries, carries-on, in-state, current-is, runtime-now, place-is, job-in, no-deadline-follows, release-follows, no-release-follows, job-then, other-stays}
 
 -- ---- one task in one slice, as numbers
--- a job from its two parts
-job-of : (j : Job) (u : ℕ) (e : Bool) → j .used ≡ u → j .ended ≡ e → j ≡ record { used = u; ended = e }
-job-of j u e p q = λ i. record { used = p i; ended = q i }
-
 pub unless-is : (s : State) (e i : ℕ) → unlessEnded s e ≡ suc i → e ≡ suc i
 unfolding unlessEnded
 unless-is s zero i q = absurd (omega arith)
@@ -54,9 +49,9 @@ pub record HasHad (j : Job) (h need runtime : ℕ) : Type 0 where
   pub used-is : j .used ≡ min h (min need runtime)
   pub ended-is : j .ended ≡ leb (min need runtime) h
 
-pub fresh-has : (n r : ℕ) → 1 ≤ n → 1 ≤ r → HasHad fresh 0 n r
+pub fresh-has : (n r : ℕ) → 1 ≤ min n r → HasHad fresh 0 n r
 unfolding fresh
-fresh-has n r ln lr = record { used-is = omega arith; ended-is = sym (lt-leb (min n r) 0 (omega arith)) }
+fresh-has n r l = record { used-is = omega arith; ended-is = sym (lt-leb (min n r) 0 (omega arith)) }
 
 -- it ends in the slice that brings its count to its need or to its run-time
 ends-now : (h need runtime report : ℕ) → h < min need runtime → report ≡ choose (eqb (h + 1) need) 1 0 → (eqb report 1 || eqb (h + 1) runtime) ≡ leb (min need runtime) (h + 1)
@@ -71,7 +66,7 @@ ends-now h need runtime report l er =
     (eq-or-ne (h + 1) runtime))
     (eq-or-ne (h + 1) need)
 
-module _ (s : State) (e i h need runtime report : ℕ) (J : HasHad (jobOf s i) h need runtime) (rt : runtimeOf s i ≡ runtime)
+module _ (s : State) (e i h need runtime report : ℕ) (J : HasHad (jobOf s i) h need runtime) (rt : runtimeOf s i (currentOf s i) ≡ runtime)
     (reports : unlessEnded s e ≡ suc i → report ≡ choose (eqb (jobOf s i .used + 1) need) 1 0) where
   -- The slice with entry e brings the job of task i one further where the entry is its own.
   slice-brings : HasHad (afterSlice s (unlessEnded s e) report i) (h + gets e i) need runtime
@@ -101,14 +96,6 @@ module _ (s : State) (e i h need runtime report : ℕ) (J : HasHad (jobOf s i) h
       (eq-or-ne e (suc i))
 
 -- ---- the state and the log of a drive
--- The state is of this plan and cycle.
-pub record Carries (P : Plan) (cycle : ℕ) (s : State) : Type 0 where
-  pub count-is : s .count ≡ P .count
-  pub cycle-is : s .cycle ≡ cycle
-  pub period-is : (i : ℕ) → i < P .count → periodOf s i ≡ P .period i
-  pub runtime-is : (i : ℕ) → i < P .count → runtimeOf s i ≡ P .runtime i 0
-  pub jobs-room : P .count ≤ length (s .jobs)
-
 -- A job that needs no more than its run-time is logged done, any other over;
 unfoldable pub resultByte : Plan → Demand → ℕ → ℕ → ℕ
 resultByte P need i k = choose (leb (need i k) (P .runtime i k)) 1 2
@@ -146,8 +133,8 @@ pub record Reached (P : Plan) (cycle : ℕ) (need d : Demand) (m : Mode) (first 
   pub long : length g ≡ length first
 
 -- ---- one step
-module _ (P : Plan) (M : Monotonic P) (whole : (i : ℕ) → i < P .count → P .due i ≡ P .period i) (cycle : ℕ)
-    (need d : Demand) (needs : (i k : ℕ) → i < P .count → 1 ≤ need i k) (enough : (i k : ℕ) → i < P .count → takes P need i k ≤ d i k) (on : OnTimeUpTo P d cycle)
+module _ (P : Plan) (S : Sound P) (cycle : ℕ)
+    (need d : Demand) (some : (i k : ℕ) → i < P .count → 1 ≤ takes P need i k) (enough : (i k : ℕ) → i < P .count → takes P need i k ≤ d i k) (on : OnTimeUpTo P d cycle)
     (m : Mode) (first : List ℕ) (p : ℕ) (lp : p < cycle) (s : State) (g : List ℕ) (R : Reached P cycle need d m first p s g)
     (tab : List ℕ) (ran-is : running s tab ≡ unlessEnded s (entry P d p))
     (A : StepAccepted s tab (nextClock (s .clock)) (reportOf need s (running s tab)) g) where
@@ -160,13 +147,9 @@ module _ (P : Plan) (M : Monotonic P) (whole : (i : ℕ) → i < P .count → P 
   abbrev after : State
   after = stateAfter s ran (nextClock (s .clock)) report
 
-  job-is : (i : ℕ) → i < P .count → s .position / periodOf s i ≡ job P i p
-  unfolding job
-  job-is i li = ap₂ _/_ (R .position-is) (R .carries .period-is i li)
-
   reports : (i : ℕ) → i < P .count → unlessEnded s (entry P d p) ≡ suc i → report ≡ choose (eqb (jobOf s i .used + 1) (need i (job P i p))) 1 0
   unfolding reportOf
-  reports i li q = ap (reportOf need s) (ran-is ∙ q) ∙ ap (λ (k : ℕ). choose (eqb (jobOf s i .used + 1) (need i k)) 1 0) (job-is i li)
+  reports i li q = ap (reportOf need s) (ran-is ∙ q) ∙ ap (λ (k : ℕ). choose (eqb (jobOf s i .used + 1) (need i k)) 1 0) (current-is (R .carries) (R .position-is) i li)
 
   module _ (i : ℕ) (li : i < P .count) where
     -- the current job, what it needs and what it may have, and what it has had with this slice
@@ -179,68 +162,43 @@ module _ (P : Plan) (M : Monotonic P) (whole : (i : ℕ) → i < P .count → P 
     abbrev now-had : ℕ
     now-had = had P d p i + gets (entry P d p) i
 
-    runtime-here : runtimeOf s i ≡ P .runtime i (job P i p)
-    runtime-here = R .carries .runtime-is i li ∙ sym (M .one-runtime i (job P i p) li)
-
     after-slice : HasHad (afterSlice s ran report i) now-had (need i k) (P .runtime i k)
     after-slice =
         subst (λ (x : ℕ). HasHad (afterSlice s x report i) now-had (need i k) (P .runtime i k)) (sym ran-is)
-        (slice-brings s (entry P d p) i (had P d p i) (need i k) (P .runtime i k) report (R .jobs-are i li) runtime-here (reports i li))
-
-    last-slice : lastSlice s i ≡ eqb (age P i (suc p)) 0
-    unfolding lastSlice age
-    last-slice = ap₂ (λ (x y : ℕ). eqb (suc x % y) 0) (R .position-is) (R .carries .period-is i li)
-
-    goes-on-not-last : suc (age P i p) < P .period i → lastSlice s i ≡ false
-    goes-on-not-last l = last-slice ∙ ne-eqb (age P i (suc p)) 0 (λ z. omega (arith, age-goes-on P (M .sound) i li p l))
-
-    ends-last : suc (age P i p) ≡ P .period i → lastSlice s i ≡ true
-    ends-last e = last-slice ∙ eq-eqb (age P i (suc p)) 0 (age-anew P (M .sound) i li p e)
+        (slice-brings s (entry P d p) i (had P d p i) (need i k) (P .runtime i k) report (R .jobs-are i li) (runtime-now (R .carries) (R .position-is) i li) (reports i li))
 
     -- ---- the next job
-    runtime-some : (m : ℕ) → 1 ≤ P .runtime i m
-    runtime-some m = omega (arith, M .runtime-pos i li, M .one-runtime i m li)
-
     job-next-is : HasHad (jobAfter s ran report i) (had P d (suc p) i) (need i (job P i (suc p))) (P .runtime i (job P i (suc p)))
+    unfolding takes
     job-next-is =
         ⊎-elim
         (λ (l : suc (age P i p) < P .period i).
-        rw (job-goes-on s ran report i (goes-on-not-last l), had-goes-on P (M .sound) d i li p l, job-stays P (M .sound) i li p l) after-slice)
+        rw (job-goes-on s ran report i (no-release-follows (R .carries) (R .position-is) i li l), had-goes-on P S d i li p l, job-stays P S i li p l) after-slice)
         (λ (e : suc (age P i p) ≡ P .period i).
-        rw (job-anew s ran report i (ends-last e), had-anew P (M .sound) d i li p e) (fresh-has (need i (job P i (suc p))) (P .runtime i (job P i (suc p))) (needs i (job P i (suc p)) li) (runtime-some (job P i (suc p)))))
-        (goes-on-or-ends P (M .sound) i li p)
+        rw (job-anew s ran report i (release-follows (R .carries) (R .position-is) i li e), had-anew P S d i li p e) (fresh-has (need i (job P i (suc p))) (P .runtime i (job P i (suc p))) (some i (job P i (suc p)) li)))
+        (goes-on-or-ends P S i li p)
 
     -- ---- its byte
-    open-now : age P i p < P .due i
-    open-now = omega (arith, whole i li, age-below P (M .sound) i li p)
+    on-time-so-far : OnTimeUpTo P d p
+    on-time-so-far = on-time-before P d p cycle (omega arith) on
 
     had-before : hadUpTo P d i k p ≡ had P d p i
-    had-before = current-had P (M .sound) d i li p (omega (arith, open-now))
+    had-before = on-time-had P S d i li p on-time-so-far
 
     had-then : hadUpTo P d i k (suc p) ≡ now-had
-    had-then = current-grows P (M .sound) d i li p open-now
+    had-then = on-time-grows P S d i li p on-time-so-far
 
-    -- where the job has not had what it takes, its deadline is not here, since the run is on time
-    not-last : now-had < b → lastSlice s i ≡ false
-    not-last l =
-        ⊎-elim
-        (λ (o : suc (age P i p) < P .period i). goes-on-not-last o)
-        (λ (e : suc (age P i p) ≡ P .period i).
-        absurd (omega (arith, enough i k li, had-by-deadline P (M .sound) d i li p (on-time-before P d (suc p) cycle lp on) (e ∙ sym (whole i li)))))
-        (goes-on-or-ends P (M .sound) i li p)
-
-    place-is : place s i ≡ offset s i + k
-    unfolding place
-    place-is = ap (λ (x : ℕ). offset s i + x) (job-is i li)
+    -- where the job has not had what it takes, its deadline does not follow, since the run is on time
+    not-late : now-had < b → deadlineNext s i ≡ false
+    not-late l =
+        no-deadline-follows (R .carries) (R .position-is) i li
+        (λ e. omega (arith, enough i k li, had-by-deadline P S d i li p (on-time-before P d (suc p) cycle lp on) e))
 
     li-state : i < s .count
-    li-state = omega (arith, R .carries .count-is)
-
-    k-in-cycle : k < cycle / P .period i
-    k-in-cycle = subst (λ (x : ℕ). job P i p < x) (ap₂ _/_ (R .carries .cycle-is) (R .carries .period-is i li)) (subst (λ (x : ℕ). x < s .cycle / periodOf s i) (job-is i li) (job-in-cycle s (R .is-sound) i (s .position) li-state (A .asked .not-over)))
+    li-state = in-state (R .carries) i li
 
     byte-before : getD g (place s i) 0 ≡ byteUpTo P need d i k p
-    byte-before = ap (λ (x : ℕ). getD g x 0) place-is ∙ R .bytes-are i k li k-in-cycle
+    byte-before = ap (λ (x : ℕ). getD g x 0) (place-is (R .carries) (R .position-is) i li) ∙ R .bytes-are i k li (job-in (R .carries) (R .position-is) i li (R .is-sound) lp)
 
     -- the slice that brings the job what it takes is its own, and its report tells done from over
     module _ (short : had P d p i < b) (full : b ≤ now-had) where
@@ -265,7 +223,7 @@ module _ (P : Plan) (M : Monotonic P) (whole : (i : ℕ) → i < P .count → P 
           ∙ sym (choose-yes (leb (need i k) (P .runtime i k)) 1 2 (le-leb (need i k) (P .runtime i k) l)))
           (λ (l : P .runtime i k < need i k).
           let not-reached : jobOf s i .used + 1 ≡ need i k → ⊥ = λ e. omega (arith, count-is-takes) in
-          log-over s tab (nextClock (s .clock)) report g A i li-state (ran-is ∙ runs) (reports i li runs ∙ choose-no (eqb (jobOf s i .used + 1) (need i k)) 1 0 (ne-eqb _ _ not-reached)) (omega (arith, count-is-takes, runtime-here))
+          log-over s tab (nextClock (s .clock)) report g A i li-state (ran-is ∙ runs) (reports i li runs ∙ choose-no (eqb (jobOf s i .used + 1) (need i k)) 1 0 (ne-eqb _ _ not-reached)) (omega (arith, count-is-takes, runtime-now (R .carries) (R .position-is) i li))
           ∙ sym (choose-no (leb (need i k) (P .runtime i k)) 1 2 (lt-leb (need i k) (P .runtime i k) l)))
           (le-or-lt (need i k) (P .runtime i k))
 
@@ -280,7 +238,7 @@ module _ (P : Plan) (M : Monotonic P) (whole : (i : ℕ) → i < P .count → P 
         ⊎-elim
         (λ (full : b ≤ now-had). ending-byte short full ∙ sym (byte-result P need d i k (suc p) (omega (arith, had-then))))
         (λ (still : now-had < b).
-        log-open s tab (nextClock (s .clock)) report g A i li-state (after-slice .ended-is ∙ lt-leb b now-had still) (not-last still)
+        log-open s tab (nextClock (s .clock)) report g A i li-state (after-slice .ended-is ∙ lt-leb b now-had still) (not-late still)
         ∙ byte-before ∙ byte-none P need d i k p (omega (arith, had-before)) ∙ sym (byte-none P need d i k (suc p) (omega (arith, had-then))))
         (le-or-lt b now-had))
         (le-or-lt b (had P d p i))
@@ -290,30 +248,24 @@ module _ (P : Plan) (M : Monotonic P) (whole : (i : ℕ) → i < P .count → P 
   unfolding byteUpTo
   bytes-then i k li lk =
       ⊎-elim
-      (λ (e : k ≡ job P i p). subst (λ (x : ℕ). getD (logAfter s ran report g) (offset s i + x) 0 ≡ byteUpTo P need d i x (suc p)) (sym e) (sym (ap (λ (x : ℕ). getD (logAfter s ran report g) x 0) (place-is i li)) ∙ byte-then i li))
+      (λ (e : k ≡ job P i p). subst (λ (x : ℕ). getD (logAfter s ran report g) (offset s i + x) 0 ≡ byteUpTo P need d i x (suc p)) (sym e) (sym (ap (λ (x : ℕ). getD (logAfter s ran report g) x 0) (place-is (R .carries) (R .position-is) i li)) ∙ byte-then i li))
       (λ (ne : k ≡ job P i p → ⊥).
-      log-other-job s tab (nextClock (s .clock)) report g A i k (li-state i li) (subst (λ (x : ℕ). k < x) (sym (ap₂ _/_ (R .carries .cycle-is) (R .carries .period-is i li))) lk) (λ e. ne (e ∙ job-is i li))
-      ∙ R .bytes-are i k li lk ∙ ap (λ (x : ℕ). choose (leb (takes P need i k) x) (resultByte P need i k) 0) (sym (others-stay P (M .sound) d i li k p ne)))
+      other-stays (R .carries) (R .position-is) i li tab (nextClock (s .clock)) report g A k lk ne
+      ∙ R .bytes-are i k li lk ∙ ap (λ (x : ℕ). choose (leb (takes P need i k) x) (resultByte P need i k) 0) (sym (others-stay P S d i li k p ne)))
       (eq-or-ne k (job P i p))
 
   -- The next state and log are those of the next slice.
   pub reached-next : Reached P cycle need d m first (suc p) after (logAfter s ran report g)
   reached-next =
       record {
-        carries = record {
-          count-is = kept .count-kept ∙ R .carries .count-is;
-          cycle-is = kept .cycle-kept ∙ R .carries .cycle-is;
-          period-is = λ i li. kept .period-kept i ∙ R .carries .period-is i li;
-          runtime-is = λ i li. kept .runtime-kept i ∙ R .carries .runtime-is i li;
-          jobs-room = omega (arith, kept .jobs-length, R .carries .jobs-room);
-        };
+        carries = carries-on (R .carries) kept;
         mode-is = kept .mode-kept ∙ R .mode-is;
         room = omega (arith, kept .job-count-kept, R .room);
-        is-sound = state-after-sound s tab (nextClock (s .clock)) report g A;
+        is-sound = state-after-sound s tab (nextClock (s .clock)) report g A (R .carries .jobs-room);
         position-is = omega (arith, kept .position-next, R .position-is);
         jobs-are = λ i li.
             subst (λ (j : Job). HasHad j (had P d (suc p) i) (need i (job P i (suc p))) (P .runtime i (job P i (suc p))))
-            (sym (job-after s tab (nextClock (s .clock)) report g A i (li-state i li) (omega (arith, R .carries .jobs-room)))) (job-next-is i li);
+            (sym (job-then (R .carries) (R .position-is) i li tab (nextClock (s .clock)) report g A)) (job-next-is i li);
         bytes-are = λ i k li lk. ap (λ (x : ℕ). getD (logAfter s ran report g) (x + k) 0) (kept .offset-kept i) ∙ bytes-then i k li lk;
         beyond = λ x l. log-beyond s tab (nextClock (s .clock)) report g A x (omega (arith, kept .job-count-kept)) ∙ R .beyond x (omega (arith, kept .job-count-kept));
         long = log-length s tab (nextClock (s .clock)) report g A ∙ R .long;

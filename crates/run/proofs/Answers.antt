@@ -1,158 +1,195 @@
--- What who and step answer at each way out, as laws over plain values.
-use mathlib.Core.Path.{_≡_, refl, sym, ap, _∙_}
+-- What a step comes to at each way out, as laws over plain values.
+use mathlib.Core.Path.{_≡_, refl, sym, ap, ap₂, _∙_}
 use mathlib.Core.List.{List}
-use mathlib.Core.Bool.{true, false}
-use Prim.Native.Nat.{ℕ, zero, suc, _-_, _≤_}
+use mathlib.Core.Bool.{Bool, false}
+use Prim.Native.Nat.{ℕ, zero, suc, _+_, _-_, _≤_, _<_}
 use native.Mathlib.Omega.{arith}
-use lib.Dec.{ltb}
-use lib.ListN.{length, getD}
-use Rattle.basis.specs.Choose.{choose, choose-yes, choose-no}
-use Rattle.run.specs.declared.Mode.{Mode}
-use Rattle.run.specs.declared.Mode.the-variants.{Table, Filling}
+use lib.ListN.{length}
+use Rattle.basis.specs.Bytes.{at}
+use Rattle.run.specs.declared.ask.Asked.{Asked}
+use Rattle.run.specs.declared.Mode.the-variants.{Table}
 use Rattle.run.specs.declared.State.{State}
-use Rattle.run.specs.declared.Next.{Next}
-use Rattle.run.specs.declared.Runner.the-variants as runner
-use Rattle.run.specs.declared.Closed.the-variants as closed
-use Rattle.run.specs.State.{jobOf, offset, jobCount}
-use Rattle.run.specs.Who.{unlessEnded, firstOpen, runningBy, running, whoRefusal, ofEntry, answered, whoOf}
-use Rattle.run.specs.Step.{of12, withResult, withLate, stepRefusal, stateAfter, logAfter, answerOf, nextState, nextLog, Stepped}
-use Rattle.run.specs.Accepted.{WhoAccepted, StepAccepted, next-asked, next-spared, who-accepted, who-answers, step-accepted, running-to}
-use Rattle.run.specs.LogAfter.{result-length}
-use Rattle.run.specs.Shapes.{twelveOn, Closes}
+use Rattle.run.specs.declared.Closed.{Closed}
+use Rattle.run.specs.declared.Closed.the-variants.{Accepted, Refused}
+use Rattle.run.specs.State.{periodOf, jobOf, currentOf, offset, place, placeIn}
+use Rattle.run.specs.Places.{place-within}
+use Rattle.run.specs.Who.{whoRefusal, running}
+use Rattle.run.specs.Step.{of12, of13, withResult, stepRefusal, stateAfter, logAfter, answerOf, nextState, nextLog, stateOf, SteppedIn, Stepped}
+use Rattle.run.specs.Accepted.{WhoAccepted, StepAccepted, next-asked, next-spared, step-accepted, state-is, accepted-none, refused-some, heldAfter, in-place, who-runs, running-to}
+use Rattle.run.specs.LogAfter.{put-length, result-length}
+use Rattle.run.specs.Shapes.{Answers, twelveOn, inAll, usedOne, resultByte, resultPut, endedIf, served, renewed, lateUpTo, goneOn}
+use Rattle.run.proofs.Served.{no-byte, result-put, late-served, state-served}
 
 -- ---- refused: a number that is not 0
-refused-is : (n e : ℕ) → (n ≡ 0 → ⊥) → runner.Refused n ≡ answered n e
-unfolding answered
-refused-is zero e nz = absurd (nz refl)
-refused-is (suc n) e nz = refl
-
-task-is : (n : ℕ) → (n ≡ 0 → ⊥) → runner.Task n ≡ ofEntry n
-unfolding ofEntry
-task-is zero nz = absurd (nz refl)
-task-is (suc n) nz = refl
-
-closed-is : (n : ℕ) → (n ≡ 0 → ⊥) → closed.Refused n ≡ answerOf n
+closed-is : (n : ℕ) → (n ≡ 0 → ⊥) → Refused n ≡ answerOf n
 unfolding answerOf
 closed-is zero nz = absurd (nz refl)
 closed-is (suc n) nz = refl
-
-state-is : (n : ℕ) (s after : State) → (n ≡ 0 → ⊥) → s ≡ nextState n s after
-unfolding nextState
-state-is zero s after nz = absurd (nz refl)
-state-is (suc n) s after nz = refl
 
 log-is : (n : ℕ) (log after : List ℕ) → (n ≡ 0 → ⊥) → log ≡ nextLog n log after
 unfolding nextLog
 log-is zero log after nz = absurd (nz refl)
 log-is (suc n) log after nz = refl
 
--- ---- by the table, an entry unless its job has ended
-module _ (s : State) where
-  pub idle-entry : (e : ℕ) → e ≡ 0 → 0 ≡ unlessEnded s e
-  unfolding unlessEnded
-  idle-entry e z = rw z
+-- What the loop over the tasks takes: their jobs have places in the log.
+pub record Closes (s : State) (log : List ℕ) : Type 0 where
+  pub count-to : s .count ≤ 16
+  pub position-to : s .position ≤ 4096
+  pub period-from : (i : ℕ) → i < s .count → 1 ≤ periodOf s i
+  pub within : (i : ℕ) → i < s .count → placeIn (s .periods) (s .cycle) (s .position) i < length log
 
-  pub ended-entry : (e : ℕ) → (e ≡ 0 → ⊥) → jobOf s (e - 1) .ended ≡ true → 0 ≡ unlessEnded s e
-  unfolding unlessEnded
-  ended-entry zero nz h = absurd (nz refl)
-  ended-entry (suc i) nz h = sym (choose-yes _ _ _ (ap (λ (x : ℕ). jobOf s x .ended) (omega arith) ∙ h))
+-- The loop keeps it so.
+late-long : (t : State) (ran result : ℕ) (old : List ℕ) (n : ℕ) → length (lateUpTo t ran result old n) ≡ length old
+unfolding lateUpTo
+late-long t ran result old zero = refl
+late-long t ran result old (suc n) = put-length _ (lateUpTo t ran result old n) (place t n) 3 ∙ late-long t ran result old n
 
-  pub open-entry : (e : ℕ) → (e ≡ 0 → ⊥) → jobOf s (e - 1) .ended ≡ false → e ≡ unlessEnded s e
-  unfolding unlessEnded
-  open-entry zero nz h = absurd (nz refl)
-  open-entry (suc i) nz h = sym (choose-no _ _ _ (ap (λ (x : ℕ). jobOf s x .ended) (omega arith) ∙ h))
+pub still-closes : (t : State) (ran result : ℕ) (old : List ℕ) (i : ℕ) (now : State) (log : List ℕ) → Closes t old → now ≡ renewed t i → log ≡ lateUpTo t ran result old i → Closes now log
+unfolding renewed periodOf
+still-closes t ran result old i now log C en el =
+    rw en
+    (record {
+      count-to = C .count-to;
+      position-to = C .position-to;
+      period-from = C .period-from;
+      within = λ k l. omega (arith, C .within k l, ap length el, late-long t ran result old i);
+    })
 
--- ---- who
-module _ (s : State) (table : List ℕ) where
-  pub by-table : (e r : ℕ) → s .mode ≡ Table → e ≡ getD table (s .position) 0 → r ≡ unlessEnded s e → r ≡ running s table
-  unfolding running runningBy
-  by-table e r m ee er = er ∙ ap (unlessEnded s) ee ∙ sym (ap (λ (x : Mode). runningBy x s table) m)
+-- A step that nothing refuses, and who ran in its slice.
+pub record Passed (s : State) (table : List ℕ) (clock report : ℕ) (log : List ℕ) (ran : ℕ) : Type 0 where
+  pub accepted : StepAccepted s table clock report log
+  pub ran-is : ran ≡ running s table
 
-  pub by-filling : (r : ℕ) → s .mode ≡ Filling → r ≡ firstOpen s → r ≡ running s table
-  unfolding running runningBy
-  by-filling r m er = er ∙ sym (ap (λ (x : Mode). runningBy x s table) m)
-
-  pub entry-known : (e : ℕ) → WhoAccepted s table → s .mode ≡ Table → e ≡ getD table (s .position) 0 → e ≤ 16
-  entry-known e A m ee = omega (arith, A .readable m .entry-to, A .is-sound .count-to)
-
-  pub who-refused : (n : ℕ) → n ≡ whoRefusal s table → (n ≡ 0 → ⊥) → runner.Refused n ≡ whoOf s table
-  unfolding whoOf
-  who-refused n e nz = refused-is n (running s table) nz ∙ ap (λ (x : ℕ). answered x (running s table)) e
-
-  module _ (n : ℕ) (e : n ≡ whoRefusal s table) (z : n ≡ 0) where
-    pub may-ask : WhoAccepted s table
-    may-ask = who-accepted s table .0 (sym e ∙ z)
-
-    pub who-idle : (r : ℕ) → r ≡ running s table → r ≡ 0 → runner.Idle ≡ whoOf s table
-    unfolding ofEntry
-    who-idle r er zr = sym (who-answers s table may-ask ∙ ap ofEntry (sym er ∙ zr))
-
-    pub who-task : (r : ℕ) → r ≡ running s table → (r ≡ 0 → ⊥) → runner.Task r ≡ whoOf s table
-    who-task r er nz = task-is r nz ∙ sym (who-answers s table may-ask ∙ ap ofEntry (sym er))
-
--- ---- step
-pub twelve : (s : State) (length jobs r : ℕ) → jobs ≡ offset s (s .count) → r ≡ choose (ltb length jobs) 12 0 → r ≡ choose (ltb length (jobCount s)) 12 0
-unfolding jobCount
-twelve s length jobs r ej er = er ∙ ap (λ (x : ℕ). choose (ltb length x) 12 0) ej
-
-module _ (s : State) (table : List ℕ) (clock report : ℕ) (log : List ℕ) where
-  -- it gives back the state that it got
-  abbrev GivesBack : ℕ → Next → Type 0
-  GivesBack n r = (r .answer ≡ closed.Refused n) × (r .state ≡ s)
-
-  refused-step : (n : ℕ) → n ≡ stepRefusal s table clock report log → (n ≡ 0 → ⊥) → (r : Next) → GivesBack n r → Stepped s table clock report log log r
-  refused-step n e nz r g = record {
-    answer = g .0 ∙ closed-is n nz ∙ ap answerOf e;
-    state = g .1 ∙ rw (← e) (state-is n s _ nz);
+module _ (s : State) (table : List ℕ) (clock report : ℕ) (log : List ℕ) (asked : Asked) (A : Answers s table asked) where
+  refused-step : (n : ℕ) → n ≡ stepRefusal s table clock report log → (n ≡ 0 → ⊥) → SteppedIn s table clock report log log (s .used) (s .ended) (Refused n)
+  refused-step n e nz = record {
+    answer = closed-is n nz ∙ ap answerOf e;
+    used = rw (← e) (ap (λ (x : State). x .used) (state-is n s _ nz));
+    ended = rw (← e) (ap (λ (x : State). x .ended) (state-is n s _ nz));
     bytes = rw (← e) (log-is n log _ nz);
   }
 
   -- Refusals 9 to 11 come first,
-  pub step-not-asked : (n : ℕ) → n ≡ whoRefusal s table → (n ≡ 0 → ⊥) → (r : Next) → GivesBack n r → Stepped s table clock report log log r
+  pub step-not-asked : (asked .number ≡ 0 → ⊥) → SteppedIn s table clock report log log (s .used) (s .ended) (Refused (asked .number))
   unfolding stepRefusal
-  step-not-asked n e nz = refused-step n (e ∙ sym (next-spared (whoRefusal s table) _ (λ z. nz (e ∙ z)))) nz
+  step-not-asked nz = refused-step (asked .number) (A .number-is ∙ sym (next-spared (whoRefusal s table) _ (λ z. nz (A .number-is ∙ z)))) nz
 
   -- then those from 12 on,
-  module _ (n : ℕ) (e : n ≡ whoRefusal s table) (z : n ≡ 0) (ran : ℕ) (er : ran ≡ running s table) (m : ℕ) (em : m ≡ twelveOn s (length log) ran clock report) where
+  module _ (z : asked .number ≡ 0) (m : ℕ) (em : m ≡ twelveOn (asked .jobs) (length log) (s .clock) clock (asked .ran) report) where
     found-is : m ≡ stepRefusal s table clock report log
-    unfolding stepRefusal twelveOn of12
-    found-is = em ∙ ap (λ (x : ℕ). twelveOn s (length log) x clock report) er ∙ sym (next-asked (whoRefusal s table) _ (sym e ∙ z))
+    unfolding stepRefusal twelveOn of12 of13
+    found-is = em ∙ rw (A .jobs-are z, A .ran-is z) (sym (next-asked (whoRefusal s table) _ (sym (A .number-is) ∙ z)))
 
-    pub step-refused : (m ≡ 0 → ⊥) → (r : Next) → GivesBack m r → Stepped s table clock report log log r
+    pub step-refused : (m ≡ 0 → ⊥) → SteppedIn s table clock report log log (s .used) (s .ended) (Refused m)
     step-refused nz = refused-step m found-is nz
 
     -- and what is not refused is done.
-    module _ (zm : m ≡ 0) where
-      pub may-step : StepAccepted s table clock report log
-      may-step = step-accepted s table clock report log .0 (sym found-is ∙ zm)
+    pub passes : m ≡ 0 → Passed s table clock report log (asked .ran)
+    passes zm = record { accepted = step-accepted s table clock report log .0 (sym found-is ∙ zm); ran-is = A .ran-is z }
 
-      accepted : WhoAccepted s table
-      accepted = may-step .asked
+module _ (s : State) (table : List ℕ) (clock report : ℕ) (log : List ℕ) (ran : ℕ) (P : Passed s table clock report log ran) where
+  abbrev asked : WhoAccepted s table
+  asked = P .accepted .asked
 
-      pub may-mark : Closes s ran log
-      may-mark = record {
-        is-sound = accepted .is-sound;
-        not-over = accepted .not-over;
-        ran-to = omega (arith, running-to s table accepted);
-        log-from = may-step .log-from;
+  job-open : (k : ℕ) → ran ≡ suc k → jobOf s k .ended ≡ false
+  job-open k e = who-runs s table asked k (sym (P .ran-is) ∙ e) .job-open
+
+  count-to : s .count ≤ 16
+  count-to = asked .is-sound .count-to
+
+  ran-to : ran ≤ s .count
+  ran-to = omega (arith, P .ran-is, running-to s table asked)
+
+  pub ran-most : ran ≤ 16
+  ran-most = omega (arith, ran-to, count-to)
+
+  -- the job that ran, or in an idle slice that of the first task
+  pub used-most : at (s .used) (ran - 1) ≤ 4096
+  unfolding jobOf
+  used-most =
+      let T = asked .is-sound .tasks-sound (ran - 1) (omega (arith, ran-to, asked .is-sound .count-from)) in
+      omega (arith, T .used-to, T .runtime-to, T .period-to)
+
+  within-log : (i : ℕ) → i < s .count → placeIn (s .periods) (s .cycle) (s .position) i < length log
+  unfolding placeIn place offset currentOf periodOf
+  within-log i l = omega (arith, place-within s (asked .is-sound) (asked .not-over) i l, P .accepted .log-from)
+
+  module _ (in-all result : ℕ) (ei : in-all ≡ inAll ran (s .used)) (er : result ≡ resultByte (s .runtimes) ran in-all report) where
+    byte-is : result ≡ resultByte (s .runtimes) ran (inAll ran (s .used)) report
+    byte-is = er ∙ ap (λ (x : ℕ). resultByte (s .runtimes) ran x report) ei
+
+    -- a result is that of a task that ran
+    pub result-of-one : 0 < result → 0 < ran
+    result-of-one p = go ran refl
+      where
+        go : (n : ℕ) → ran ≡ n → 0 < n
+        go zero e = absurd (omega (arith, byte-is, ap (λ (x : ℕ). resultByte (s .runtimes) x (inAll x (s .used)) report) e, no-byte s report))
+        go (suc n) e = omega arith
+
+    pub result-lies : 0 < result → (0 < ran) × (ran - 1 < 16) × (placeIn (s .periods) (s .cycle) (s .position) (ran - 1) < length log)
+    result-lies p =
+        let some = result-of-one p in
+        let l : ran - 1 < s .count = omega (arith, ran-to) in
+        (some, omega (arith, count-to), within-log _ l)
+
+    module _ (used : List ℕ) (ended : List Bool) (marked : List ℕ) (eu : used ≡ usedOne ran (s .used)) (ee : ended ≡ endedIf ran result (s .ended))
+        (ek : marked ≡ resultPut log (placeIn (s .periods) (s .cycle) (s .position) (ran - 1)) result) where
+      -- the state that the loop begins with
+      abbrev begun : State
+      begun = stateOf (s .periods) (s .runtimes) used ended (s .count) (s .cycle) (s .position) (s .clock) Table
+
+      begun-served : begun ≡ served s ran report
+      unfolding served
+      begun-served =
+          ap₂ (λ u e. stateOf (s .periods) (s .runtimes) u e (s .count) (s .cycle) (s .position) (s .clock) Table)
+          eu (ee ∙ ap (λ (x : ℕ). endedIf ran x (s .ended)) byte-is)
+
+      marked-result : marked ≡ withResult s ran report log
+      unfolding placeIn place offset currentOf periodOf
+      marked-result = ek ∙ ap (resultPut log (place s (ran - 1))) byte-is ∙ result-put s report ran log
+
+      pub closing : Closes begun marked
+      unfolding periodOf
+      closing = record {
+        count-to = count-to;
+        position-to = omega (arith, asked .not-over, asked .is-sound .cycle-to);
+        period-from = λ i l. asked .is-sound .tasks-sound i l .period-from;
+        within = λ i l. omega (arith, within-log i l, ap length marked-result, result-length s report log ran);
       }
 
-      module _ (marked : List ℕ) (ek : marked ≡ withResult s ran report log) where
-        pub may-mark-late : Closes s ran marked
-        may-mark-late = record {
-          is-sound = accepted .is-sound;
-          not-over = accepted .not-over;
-          ran-to = may-mark .ran-to;
-          log-from = omega (arith, may-step .log-from, ap length ek, result-length s report log ran);
-        }
+      pub length-still : (i : ℕ) (late : List ℕ) → late ≡ lateUpTo begun ran result marked i → length late ≡ length log
+      length-still i late el = ap length el ∙ late-long begun ran result marked i ∙ ap length marked-result ∙ result-length s report log ran
 
-        pub step-done : (late : List ℕ) (after : State) → late ≡ withLate s ran report marked (s .count) → after ≡ stateAfter s ran clock report
-            → Stepped s table clock report log late (record { answer = closed.Accepted; state = after })
-        unfolding answerOf nextState nextLog logAfter
-        step-done late after el ea =
-            let none : stepRefusal s table clock report log ≡ 0 = sym found-is ∙ zm in
-            record {
-              answer = rw none;
-              state = rw (none, ← er) ea;
-              bytes = rw (none, ← er) (el ∙ ap (λ (x : List ℕ). withLate s ran report x (s .count)) ek);
-            }
+      pub step-done : (i : ℕ) (used′ : List ℕ) (ended′ : List Bool) (late : List ℕ) → i ≡ s .count → used′ ≡ renewed begun i .used → ended′ ≡ renewed begun i .ended → late ≡ lateUpTo begun ran result marked i
+          → SteppedIn s table clock report log late used′ ended′ Accepted
+      unfolding answerOf nextState nextLog logAfter goneOn
+      step-done i used′ ended′ late ei eu′ ee′ el =
+          let none : stepRefusal s table clock report log ≡ 0 = step-accepted s table clock report log .1 (P .accepted) in
+          let after : goneOn (renewed begun i) clock (s .mode) ≡ stateAfter s ran clock report =
+          ap (λ (x : State). goneOn x clock (s .mode)) (ap₂ renewed begun-served ei) ∙ state-served s report ran job-open (asked .is-sound .count-from) ran-to clock
+          in
+          record {
+            answer = rw none;
+            used = rw (none, ← P .ran-is) (eu′ ∙ ap (λ (x : State). x .used) after);
+            ended = rw (none, ← P .ran-is) (ee′ ∙ ap (λ (x : State). x .ended) after);
+            bytes = rw (none, ← P .ran-is) (el ∙ rw (begun-served, marked-result, ei, byte-is) (late-served s report ran job-open _ (s .count)));
+          }
+
+-- ---- the state by value
+module _ (s : State) (table : List ℕ) (clock report : ℕ) (log log′ used : List ℕ) (ended : List Bool) (r : Closed) (S : SteppedIn s table clock report log log′ used ended r) where
+  pub gives-back : (n : ℕ) → r ≡ Refused n → Stepped s table clock report log log′ (record { answer = r; state = s })
+  gives-back n e = record {
+    answer = S .answer;
+    state = state-is _ s _ (refused-some _ n (sym e ∙ S .answer));
+    bytes = S .bytes;
+  }
+
+  module _ (e : r ≡ Accepted) where
+    pub position-fits : s .position < 4096
+    position-fits =
+        let A = step-accepted s table clock report log .0 (accepted-none _ (sym e ∙ S .answer)) .asked in
+        omega (arith, A .not-over, A .is-sound .cycle-to)
+
+    pub hands-on : Stepped s table clock report log log′ (record { answer = r; state = stateOf (s .periods) (s .runtimes) used ended (s .count) (s .cycle) (s .position + 1) clock (s .mode) })
+    unfolding heldAfter
+    hands-on = rw e (rw e at (in-place s table clock report log log′ used ended r S))

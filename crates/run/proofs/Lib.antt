@@ -1,4 +1,5 @@
 -- Laws that the proofs of several functions cite.
 pub mod Turns
-pub mod Scan
+pub mod Asking
+pub mod Served
 pub mod Answers

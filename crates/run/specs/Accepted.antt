@@ -1,9 +1,9 @@
 -- When asking who runs and a step are accepted, said as facts; and what is known of the task that runs.
-use mathlib.Core.Path.{_≡_, refl, sym, ap, _∙_}
+use mathlib.Core.Path.{_≡_, refl, sym, ap, ap₂, _∙_}
 use mathlib.Core.List.{List}
 use mathlib.Core.Bool.{Bool, true, false, true≢false}
 use mathlib.Core.Logic.{⊎-elim, inl, inr, _↔_}
-use Prim.Native.Nat.{ℕ, zero, suc, _≤_, _<_}
+use Prim.Native.Nat.{ℕ, zero, suc, _+_, _≤_, _<_}
 use native.Mathlib.Omega.{arith}
 use native.Mathlib.Nat.{pos-of-ne-zero}
 use lib.Dec.{eqb}
@@ -15,11 +15,12 @@ use Rattle.plan.specs.Rank.{first-law}
 use Rattle.run.specs.declared.Mode.{Mode}
 use Rattle.run.specs.declared.Mode.the-variants.{Table, Filling}
 use Rattle.run.specs.declared.State.{State}
-use Rattle.run.specs.declared.Closed.the-variants.{Accepted}
+use Rattle.run.specs.declared.Closed.{Closed}
+use Rattle.run.specs.declared.Closed.the-variants.{Accepted, Refused}
 use Rattle.run.specs.declared.Next.{Next}
-use Rattle.run.specs.State.{periodOf, jobOf, sound, jobCount}
-use Rattle.run.specs.Who.{unlessEnded, firstOpen, runningBy, running, orNext, of9, of10, of11By, of11, whoRefusal, ofEntry, answered, whoOf}
-use Rattle.run.specs.Step.{of12, nextClock, of13, of14, stepRefusal, stateAfter, logAfter, answerOf, nextState, nextLog, Stepped}
+use Rattle.run.specs.State.{keyOf, currentOf, jobOf, sound, jobCount}
+use Rattle.run.specs.Who.{unlessEnded, firstOpen, runningBy, running, orNext, of9, of10, of11By, of11, whoRefusal}
+use Rattle.run.specs.Step.{of12, nextClock, of13, of14, stepRefusal, stateAfter, logAfter, answerOf, nextState, nextLog, stateOf, SteppedIn, Stepped}
 use Rattle.run.specs.Sound.{SoundState, sound-tells}
 
 -- ---- the facts
@@ -146,10 +147,6 @@ step-accepted s table clock report log = (
 
 -- ---- the answers
 module _ (s : State) (table : List ℕ) where
-  pub who-answers : WhoAccepted s table → whoOf s table ≡ ofEntry (running s table)
-  unfolding whoOf answered
-  who-answers A = rw (who-accepted s table .1 A)
-
   -- An accepted step answers so, with the state and the log as the rules say.
   pub step-answers : (clock report : ℕ) (log log′ : List ℕ) (r : Next) → StepAccepted s table clock report log → Stepped s table clock report log log′ r
       → (r .answer ≡ Accepted) × (r .state ≡ stateAfter s (running s table) clock report) × (log′ ≡ logAfter s (running s table) report log)
@@ -157,6 +154,49 @@ module _ (s : State) (table : List ℕ) where
   step-answers clock report log log′ r A S =
       let z = step-accepted s table clock report log .1 A in
       (rw z at (S .answer), rw z at (S .state), rw z at (S .bytes))
+
+-- ---- in place
+pub state-is : (n : ℕ) (s after : State) → (n ≡ 0 → ⊥) → s ≡ nextState n s after
+unfolding nextState
+state-is zero s after nz = absurd (nz refl)
+state-is (suc n) s after nz = refl
+
+pub accepted-none : (n : ℕ) → Accepted ≡ answerOf n → n ≡ 0
+unfolding answerOf
+accepted-none zero e = refl
+accepted-none (suc n) e = let z : _≡_ {A = ℕ} 0 1 = cc in absurd (omega arith)
+
+pub refused-some : (n m : ℕ) → Refused m ≡ answerOf n → n ≡ 0 → ⊥
+unfolding answerOf
+refused-some zero m e z = let z : _≡_ {A = ℕ} 0 1 = cc in omega arith
+refused-some (suc n) m e z = omega arith
+
+-- What a caller holds after a step in place that raises the position and keeps the clock reading of an accepted one
+unfoldable pub heldAfter : Closed → State → List ℕ → List Bool → ℕ → State
+heldAfter Accepted s used ended clock = stateOf (s .periods) (s .runtimes) used ended (s .count) (s .cycle) (s .position + 1) clock (s .mode)
+heldAfter (Refused n) s used ended clock = stateOf (s .periods) (s .runtimes) used ended (s .count) (s .cycle) (s .position) (s .clock) (s .mode)
+
+-- is what the step by value gives.
+pub in-place : (s : State) (table : List ℕ) (clock report : ℕ) (log log′ used : List ℕ) (ended : List Bool) (r : Closed) → SteppedIn s table clock report log log′ used ended r
+    → Stepped s table clock report log log′ (record { answer = r; state = heldAfter r s used ended clock })
+unfolding heldAfter nextState stateAfter
+in-place s table clock report log log′ used ended Accepted S =
+    let none : stepRefusal s table clock report log ≡ 0 = accepted-none _ (S .answer) in
+    record {
+      answer = S .answer;
+      state = rw none (ap₂ (λ u d. stateOf (s .periods) (s .runtimes) u d (s .count) (s .cycle) (s .position + 1) clock (s .mode)) (rw none at (S .used)) (rw none at (S .ended)));
+      bytes = S .bytes;
+    }
+in-place s table clock report log log′ used ended (Refused n) S =
+    let same = state-is _ s (stateAfter s (running s table) clock report) (refused-some _ n (S .answer)) in
+    record {
+      answer = S .answer;
+      state =
+          ap₂ (λ u d. stateOf (s .periods) (s .runtimes) u d (s .count) (s .cycle) (s .position) (s .clock) (s .mode))
+          (S .used ∙ sym (ap (λ (x : State). x .used) same)) (S .ended ∙ sym (ap (λ (x : State). x .ended) same))
+          ∙ same;
+      bytes = S .bytes;
+    }
 
 -- ---- who runs
 -- Whoever runs is a task of the state, and its job has not ended.
@@ -170,7 +210,7 @@ unfolding choose
 wants-open true p = absurd (omega arith)
 wants-open false p = refl
 
-first-runs : (s : State) (e i : ℕ) → IsFirst (periodOf s) (λ i. choose (jobOf s i .ended) 0 1) (s .count) e → e ≡ suc i → RunsIn s i
+first-runs : (s : State) (e i : ℕ) → IsFirst (λ i. keyOf s i (currentOf s i)) (λ i. choose (jobOf s i .ended) 0 1) (s .count) e → e ≡ suc i → RunsIn s i
 unfolding IsFirst
 first-runs s e i (inl h) q = absurd (omega arith)
 first-runs s e i (inr h) q =
@@ -191,7 +231,7 @@ entry-runs s (suc j) i l q =
 mode-runs : (m : Mode) (s : State) (table : List ℕ) → (m ≡ Table → Readable s table) → (i : ℕ) → runningBy m s table ≡ suc i → RunsIn s i
 unfolding runningBy firstOpen
 mode-runs Table s table R i q = entry-runs s (getD table (s .position) 0) i (R refl .entry-to) q
-mode-runs Filling s table R i q = first-runs s _ i (first-law (periodOf s) (λ i. choose (jobOf s i .ended) 0 1) (s .count)) q
+mode-runs Filling s table R i q = first-runs s _ i (first-law (λ i. keyOf s i (currentOf s i)) (λ i. choose (jobOf s i .ended) 0 1) (s .count)) q
 
 module _ (s : State) (table : List ℕ) (A : WhoAccepted s table) where
   pub who-runs : (i : ℕ) → running s table ≡ suc i → RunsIn s i

@@ -10,12 +10,11 @@ use lib.ListN.{length, getD, set, length-set}
 use lib.Seq.{getD-set-same, getD-set-other}
 use borrow.Author.Tests.{eq-eqb, ne-eqb}
 use Rattle.basis.specs.Choose.{choose, eq-or-ne, below-suc, either-false}
-use Rattle.run.specs.declared.Job.{Job}
 use Rattle.run.specs.declared.State.{State}
-use Rattle.run.specs.State.{periodOf, runtimeOf, jobOf, offset, jobCount, place, lastSlice}
+use Rattle.run.specs.State.{Job, periodOf, runtimeOf, currentOf, jobOf, offset, jobCount, place, deadlineNext}
 use Rattle.run.specs.Who.{running}
 use Rattle.run.specs.Step.{afterSlice, resultOf, withResult, withLate, logAfter}
-use Rattle.run.specs.Places.{place-within, places-apart, jobs-apart, job-in-cycle}
+use Rattle.run.specs.Places.{current-in-cycle, place-within, places-apart, jobs-apart}
 use Rattle.run.specs.Accepted.{StepAccepted, who-runs}
 use Rattle.run.specs.StateAfter.{slice-here, slice-elsewhere}
 
@@ -24,11 +23,11 @@ use Rattle.run.specs.StateAfter.{slice-here, slice-elsewhere}
 unfoldable pub byteAfter : State → ℕ → ℕ → ℕ → ℕ → ℕ
 byteAfter s ran report i old =
     choose (eqb ran (suc i) && eqb report 1) 1
-    (choose (eqb ran (suc i) && eqb (jobOf s i .used + 1) (runtimeOf s i)) 2
-    (choose (lastSlice s i && not (jobOf s i .ended)) 3 old))
+    (choose (eqb ran (suc i) && eqb (jobOf s i .used + 1) (runtimeOf s i (currentOf s i))) 2
+    (choose (deadlineNext s i && not (jobOf s i .ended)) 3 old))
 
 -- ---- a byte that is written if a test holds, and one of two
-put-length : (b : Bool) (log : List ℕ) (k v : ℕ) → length (choose b (set log k v) log) ≡ length log
+pub put-length : (b : Bool) (log : List ℕ) (k v : ℕ) → length (choose b (set log k v) log) ≡ length log
 unfolding choose
 put-length true log k v = length-set log k v
 put-length false log k v = refl
@@ -70,20 +69,20 @@ module _ (s : State) (report : ℕ) (log : List ℕ) where
   result-other zero m ne = refl
   result-other (suc i) m ne = either-other _ _ log (place s i) 1 2 m (ne i refl)
 
-  result-here : (i : ℕ) → place s i < length log → getD (withResult s (suc i) report log) (place s i) 0 ≡ choose (eqb report 1) 1 (choose (eqb (jobOf s i .used + 1) (runtimeOf s i)) 2 (getD log (place s i) 0))
+  result-here : (i : ℕ) → place s i < length log → getD (withResult s (suc i) report log) (place s i) 0 ≡ choose (eqb report 1) 1 (choose (eqb (jobOf s i .used + 1) (runtimeOf s i (currentOf s i))) 2 (getD log (place s i) 0))
   unfolding withResult resultOf
-  result-here i l = either-here (eqb report 1) (eqb (jobOf s i .used + 1) (runtimeOf s i)) log (place s i) 1 2 l
+  result-here i l = either-here (eqb report 1) (eqb (jobOf s i .used + 1) (runtimeOf s i (currentOf s i))) log (place s i) 1 2 l
 
 -- ---- late
 -- the current job of task i gets 3
 unfoldable isLate : State → ℕ → ℕ → ℕ → Bool
-isLate s ran report i = lastSlice s i && not (afterSlice s ran report i .ended)
+isLate s ran report i = deadlineNext s i && not (afterSlice s ran report i .ended)
 
 module _ (s : State) (ran report : ℕ) (log : List ℕ) where
   pub late-length : (n : ℕ) → length (withLate s ran report log n) ≡ length log
   unfolding withLate
   late-length zero = refl
-  late-length (suc n) = put-length (lastSlice s n && not (afterSlice s ran report n .ended)) (withLate s ran report log n) (place s n) 3 ∙ late-length n
+  late-length (suc n) = put-length (deadlineNext s n && not (afterSlice s ran report n .ended)) (withLate s ran report log n) (place s n) 3 ∙ late-length n
 
   late-other : (n m : ℕ) → ((i : ℕ) → i < n → m ≡ place s i → ⊥) → getD (withLate s ran report log n) m 0 ≡ getD log m 0
   unfolding withLate
@@ -151,7 +150,7 @@ module _ (s : State) (table : List ℕ) (clock report : ℕ) (log : List ℕ) (A
   byte-here i l e =
       late-at i l
       ∙ ap (λ (x : ℕ). choose (isLate s ran report i) 3 x) (ap (λ (x : ℕ). getD (withResult s x report log) (place s i) 0) e ∙ result-here s report log i (inside i l))
-      ∙ rw (slice-here s ran report i e, eq-eqb ran (suc i) e, who-runs s table (A .asked) i e .job-open) (ended-here (eqb report 1) (eqb (jobOf s i .used + 1) (runtimeOf s i)) (lastSlice s i) (getD log (place s i) 0))
+      ∙ rw (slice-here s ran report i e, eq-eqb ran (suc i) e, who-runs s table (A .asked) i e .job-open) (ended-here (eqb report 1) (eqb (jobOf s i .used + 1) (runtimeOf s i (currentOf s i))) (deadlineNext s i) (getD log (place s i) 0))
 
   byte-elsewhere : (i : ℕ) → i < s .count → (ran ≡ suc i → ⊥) → getD after (place s i) 0 ≡ byteAfter s ran report i (getD log (place s i) 0)
   unfolding byteAfter isLate choose
@@ -171,14 +170,14 @@ module _ (s : State) (table : List ℕ) (clock report : ℕ) (log : List ℕ) (A
       late-other s ran report (withResult s ran report log) (s .count) m ne
       ∙ result-other s report log ran m (λ i e. ne i (who-runs s table (A .asked) i e .below))
 
-  -- either-false that of another job of a task,
-  pub log-other-job : (i k : ℕ) → i < s .count → k < s .cycle / periodOf s i → (k ≡ s .position / periodOf s i → ⊥) → getD after (offset s i + k) 0 ≡ getD log (offset s i + k) 0
+  -- neither that of another job of a task,
+  pub log-other-job : (i k : ℕ) → i < s .count → k < s .cycle / periodOf s i → (k ≡ currentOf s i → ⊥) → getD after (offset s i + k) 0 ≡ getD log (offset s i + k) 0
   unfolding place
   log-other-job i k l lk ne =
       log-elsewhere (offset s i + k)
       (λ j lj e.
-      let same = jobs-apart s i j k (s .position / periodOf s j) lk (job-in-cycle s (A .asked .is-sound) j (s .position) lj (A .asked .not-over)) e in
-      ne (same .1 ∙ ap (λ (x : ℕ). s .position / periodOf s x) (sym (same .0))))
+      let same = jobs-apart s i j k (currentOf s j) lk (current-in-cycle s (A .asked .is-sound) (A .asked .not-over) j lj) e in
+      ne (same .1 ∙ ap (currentOf s) (sym (same .0))))
 
   -- nor one beyond the jobs.
   pub log-beyond : (m : ℕ) → jobCount s ≤ m → getD after m 0 ≡ getD log m 0
@@ -190,21 +189,21 @@ module _ (s : State) (table : List ℕ) (clock report : ℕ) (log : List ℕ) (A
     unfolding byteAfter choose
     log-done e one = log-byte i l ∙ rw (eq-eqb ran (suc i) e, eq-eqb report 1 one)
 
-    pub log-over : ran ≡ suc i → report ≡ 0 → jobOf s i .used + 1 ≡ runtimeOf s i → getD after (place s i) 0 ≡ 2
+    pub log-over : ran ≡ suc i → report ≡ 0 → jobOf s i .used + 1 ≡ runtimeOf s i (currentOf s i) → getD after (place s i) 0 ≡ 2
     unfolding byteAfter choose
-    log-over e none full = log-byte i l ∙ rw (eq-eqb ran (suc i) e, ne-eqb report 1 (λ one. omega arith), eq-eqb (jobOf s i .used + 1) (runtimeOf s i) full)
+    log-over e none full = log-byte i l ∙ rw (eq-eqb ran (suc i) e, ne-eqb report 1 (λ one. omega arith), eq-eqb (jobOf s i .used + 1) (runtimeOf s i (currentOf s i)) full)
 
     -- one that has not ended is late at its deadline, and its byte stays before that;
-    pub log-late : afterSlice s ran report i .ended ≡ false → lastSlice s i ≡ true → getD after (place s i) 0 ≡ 3
+    pub log-late : afterSlice s ran report i .ended ≡ false → deadlineNext s i ≡ true → getD after (place s i) 0 ≡ 3
     unfolding isLate choose
     log-late o last = late-at i l ∙ rw (last, o)
 
-    pub log-open : afterSlice s ran report i .ended ≡ false → lastSlice s i ≡ false → getD after (place s i) 0 ≡ getD log (place s i) 0
+    pub log-open : afterSlice s ran report i .ended ≡ false → deadlineNext s i ≡ false → getD after (place s i) 0 ≡ getD log (place s i) 0
     unfolding byteAfter choose
     log-open o last =
         ⊎-elim
         (λ (e : ran ≡ suc i).
-        let h = either-false (eqb report 1) (eqb (jobOf s i .used + 1) (runtimeOf s i)) .0 (sym (ap (λ (j : Job). j .ended) (slice-here s ran report i e)) ∙ o) in
+        let h = either-false (eqb report 1) (eqb (jobOf s i .used + 1) (runtimeOf s i (currentOf s i))) .0 (sym (ap (λ (j : Job). j .ended) (slice-here s ran report i e)) ∙ o) in
         log-byte i l ∙ rw (eq-eqb ran (suc i) e, h .0, h .1, last))
         (λ (ne : ran ≡ suc i → ⊥). log-byte i l ∙ rw (ne-eqb ran (suc i) ne, last))
         (eq-or-ne ran (suc i))
@@ -214,4 +213,4 @@ module _ (s : State) (table : List ℕ) (clock report : ℕ) (log : List ℕ) (A
     unfolding byteAfter choose
     log-ended e =
         let other : ran ≡ suc i → ⊥ = λ r. true≢false (sym e ∙ who-runs s table (A .asked) i r .job-open) in
-        log-byte i l ∙ rw (ne-eqb ran (suc i) other, e) (never-late (lastSlice s i) (getD log (place s i) 0))
+        log-byte i l ∙ rw (ne-eqb ran (suc i) other, e) (never-late (deadlineNext s i) (getD log (place s i) 0))

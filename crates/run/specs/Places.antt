@@ -1,16 +1,11 @@
 -- How the jobs of a sound state lie in the log: every current job within it, no two jobs at one place.
 use mathlib.Core.Path.{_≡_, refl}
-use mathlib.Core.Bool.{true}
-use mathlib.Core.Logic.{⊎-elim, _↔_}
-use Prim.Native.Nat.{ℕ, suc, _+_, _*_, _/_, _%_, _≤_, _<_}
+use Prim.Native.Nat.{ℕ, suc, _+_, _*_, _/_, _≤_, _<_}
 use native.Mathlib.Omega.{arith}
-use native.Mathlib.Nat.{div-lt-iff-lt-mul, div-mul-cancel, div-le-self, mod-lt}
-use borrow.Author.Tests.{eqb-true, eq-eqb}
-use Rattle.basis.specs.Choose.{eq-or-ne}
+use native.Mathlib.Nat.{div-lt-iff-lt-mul, div-mul-cancel, div-le-self}
 use Rattle.basis.specs.Sum.{sum, sum-le, sum-same, sum-grows, sum-apart}
-use Rattle.basis.specs.Slices.{mod-same, mod-next}
 use Rattle.run.specs.declared.State.{State}
-use Rattle.run.specs.State.{periodOf, offset, jobCount, place, lastSlice}
+use Rattle.run.specs.State.{periodOf, currentOf, offset, jobCount, place}
 use Rattle.run.specs.Sound.{SoundState}
 
 module _ (s : State) where
@@ -43,35 +38,21 @@ module _ (s : State) (S : SoundState s) where
       let T = S .tasks-sound i l in
       div-lt-iff-lt-mul {x = t} {y = s .cycle / periodOf s i} (T .period-from) .1 (omega (arith, div-mul-cancel (periodOf s i) (T .period-divides)))
 
-  -- The slice at the position is the last before a deadline exactly if the current job is in the last slice of its period.
-  pub last-slice-tells : (i : ℕ) → i < s .count → (lastSlice s i ≡ true) ↔ (suc (s .position % periodOf s i) ≡ periodOf s i)
-  unfolding lastSlice
-  last-slice-tells i l = (
-    λ h.
-        let z = eqb-true (suc (s .position) % periodOf s i) 0 h in
-        ⊎-elim
-        (λ (e : suc (s .position % periodOf s i) ≡ periodOf s i). e)
-        (λ (ne : suc (s .position % periodOf s i) ≡ periodOf s i → ⊥).
-        absurd (omega (arith, mod-same (periodOf s i) (S .tasks-sound i l .period-from) (s .position) (omega (arith, mod-lt (s .position) (S .tasks-sound i l .period-from))))))
-        (eq-or-ne (suc (s .position % periodOf s i)) (periodOf s i)),
-    λ e. eq-eqb (suc (s .position) % periodOf s i) 0 (mod-next (periodOf s i) (S .tasks-sound i l .period-from) (s .position) e),
-  )
-
   -- At most 4,096 jobs of each of at most 16 tasks.
   pub offset-most : (i : ℕ) → i ≤ s .count → offset s i ≤ i * 4096
   unfolding offset
   offset-most i l = omega (arith, sum-le (λ j. s .cycle / periodOf s j) (λ _. 4096) i (λ j lj. omega (arith, S .cycle-to, div-le-self (s .cycle) (periodOf s j))), sum-same 4096 i)
 
-  pub job-count-most : jobCount s ≤ 65536
-  unfolding jobCount
-  job-count-most = omega (arith, offset-most (s .count) (omega arith), S .count-to)
-
-  -- While the run is not over, the current job of each task has a place of its own.
+  -- While the run is not over, the current job of each task is one of its jobs in the cycle, with a place of its own.
   module _ (p : s .position < s .cycle) where
+    pub current-in-cycle : (i : ℕ) → i < s .count → currentOf s i < s .cycle / periodOf s i
+    unfolding currentOf
+    current-in-cycle i l = job-in-cycle i (s .position) l p
+
     pub place-within : (i : ℕ) → i < s .count → place s i < jobCount s
     unfolding place
-    place-within i l = job-within s i (s .position / periodOf s i) l (job-in-cycle i (s .position) l p)
+    place-within i l = job-within s i (currentOf s i) l (current-in-cycle i l)
 
     pub places-apart : (i j : ℕ) → i < s .count → j < s .count → place s i ≡ place s j → i ≡ j
     unfolding place
-    places-apart i j li lj e = jobs-apart s i j (s .position / periodOf s i) (s .position / periodOf s j) (job-in-cycle i (s .position) li p) (job-in-cycle j (s .position) lj p) e .0
+    places-apart i j li lj e = jobs-apart s i j (currentOf s i) (currentOf s j) (current-in-cycle i li) (current-in-cycle j lj) e .0

@@ -6,13 +6,10 @@ use Prim.Native.Nat.{ℕ, zero, suc, _%_, _≤_, _<_, _∣_}
 use native.Mathlib.Omega.{arith}
 use native.Mathlib.Nat.{dvd-iff-mod-eq-zero}
 use lib.Dec.{leb, ltb}
-use lib.ListN.{getD}
 use borrow.Author.Tests.{leb-true, le-leb, ltb-true, lt-ltb, eqb-true, eq-eqb}
 use Rattle.basis.specs.Choose.{both-true, below-suc}
-use Rattle.run.specs.declared.Timing.{Timing}
-use Rattle.run.specs.declared.Job.{Job}
 use Rattle.run.specs.declared.State.{State}
-use Rattle.run.specs.State.{noTiming, periodOf, runtimeOf, jobOf, within, every, soundTask, sound}
+use Rattle.run.specs.State.{Job, periodOf, runtimeOf, currentOf, jobOf, within, every, soundTask, sound}
 
 -- Each period from 1 to 4,096 and dividing the cycle; each run-time from 1 to its period; slices used at most the run-time,
 -- and below it unless the job has ended.
@@ -32,7 +29,7 @@ pub record SoundState (s : State) : Type 0 where
   pub cycle-from : 1 ≤ s .cycle
   pub cycle-to : s .cycle ≤ 4096
   pub position-to : s .position ≤ s .cycle
-  pub tasks-sound : (i : ℕ) → i < s .count → SoundTask (s .cycle) (periodOf s i) (runtimeOf s i) (jobOf s i)
+  pub tasks-sound : (i : ℕ) → i < s .count → SoundTask (s .cycle) (periodOf s i) (runtimeOf s i (currentOf s i)) (jobOf s i)
 
 -- ---- tests of a range, and of every number below n
 module _ (low high x : ℕ) where
@@ -45,7 +42,7 @@ module _ (low high x : ℕ) where
   is-within l h = both-true (leb low x) (leb x high) .1 (le-leb low x l, le-leb x high h)
 
 module _ (test : ℕ → Bool) where
-  every-tells : (n : ℕ) → every test n ≡ true → (i : ℕ) → i < n → test i ≡ true
+  pub every-tells : (n : ℕ) → every test n ≡ true → (i : ℕ) → i < n → test i ≡ true
   unfolding every
   every-tells zero e i l = absurd (omega arith)
   every-tells (suc n) e i l =
@@ -62,46 +59,46 @@ below-unless : (ended : Bool) (used runtime : ℕ) → ((ended || ltb used runti
 below-unless true used runtime = (λ _ e. absurd (true≢false e), λ _. refl)
 below-unless false used runtime = (λ h _. ltb-true used runtime h, λ h. lt-ltb used runtime (h refl))
 
-module _ (cycle : ℕ) (t : Timing) (j : Job) where
-  task-tells : soundTask cycle t j ≡ true → SoundTask cycle (t .period) (t .runtime) j
+module _ (cycle period runtime : ℕ) (j : Job) where
+  pub task-tells : soundTask cycle period runtime j ≡ true → SoundTask cycle period runtime j
   unfolding soundTask
   task-tells e =
       let a = both-true _ _ .0 e in
       let b = both-true _ _ .0 (a .0) in
       let c = both-true _ _ .0 (b .0) in
       let d = both-true _ _ .0 (c .0) in
-      let p = within-tells 1 4096 (t .period) (d .0) in
-      let r = within-tells 1 (t .period) (t .runtime) (c .1) in
+      let p = within-tells 1 4096 period (d .0) in
+      let r = within-tells 1 period runtime (c .1) in
       record {
         period-from = p .0;
         period-to = p .1;
-        period-divides = dvd-iff-mod-eq-zero (t .period) .1 (eqb-true (cycle % t .period) 0 (d .1));
+        period-divides = dvd-iff-mod-eq-zero period .1 (eqb-true (cycle % period) 0 (d .1));
         runtime-from = r .0;
         runtime-to = r .1;
-        used-to = leb-true (j .used) (t .runtime) (b .1);
-        used-below = below-unless (j .ended) (j .used) (t .runtime) .0 (a .1);
+        used-to = leb-true (j .used) runtime (b .1);
+        used-below = below-unless (j .ended) (j .used) runtime .0 (a .1);
       }
 
-  is-task : SoundTask cycle (t .period) (t .runtime) j → soundTask cycle t j ≡ true
+  is-task : SoundTask cycle period runtime j → soundTask cycle period runtime j ≡ true
   unfolding soundTask
   is-task S =
       both-true _ _ .1 (
         both-true _ _ .1 (
           both-true _ _ .1 (
             both-true _ _ .1 (
-              is-within 1 4096 (t .period) (S .period-from) (S .period-to),
-              eq-eqb (cycle % t .period) 0 (dvd-iff-mod-eq-zero (t .period) .0 (S .period-divides)),
+              is-within 1 4096 period (S .period-from) (S .period-to),
+              eq-eqb (cycle % period) 0 (dvd-iff-mod-eq-zero period .0 (S .period-divides)),
             ),
-            is-within 1 (t .period) (t .runtime) (S .runtime-from) (S .runtime-to),
+            is-within 1 period runtime (S .runtime-from) (S .runtime-to),
           ),
-          le-leb (j .used) (t .runtime) (S .used-to),
+          le-leb (j .used) runtime (S .used-to),
         ),
-        below-unless (j .ended) (j .used) (t .runtime) .1 (S .used-below),
+        below-unless (j .ended) (j .used) runtime .1 (S .used-below),
       )
 
 -- The test of soundness holds exactly of the sound states.
 pub sound-tells : (s : State) → (sound s ≡ true) ↔ SoundState s
-unfolding sound periodOf runtimeOf
+unfolding sound
 sound-tells s = (
   λ e.
       let a = both-true _ _ .0 e in
@@ -115,7 +112,7 @@ sound-tells s = (
         cycle-from = m .0;
         cycle-to = m .1;
         position-to = leb-true (s .position) (s .cycle) (b .1);
-        tasks-sound = λ i l. task-tells (s .cycle) (getD (s .tasks) i noTiming) (jobOf s i) (every-tells _ (s .count) (a .1) i l);
+        tasks-sound = λ i l. task-tells _ _ _ _ (every-tells _ (s .count) (a .1) i l);
       },
   λ S.
       both-true _ _ .1 (
@@ -126,6 +123,6 @@ sound-tells s = (
           ),
           le-leb (s .position) (s .cycle) (S .position-to),
         ),
-        is-every _ (s .count) (λ i l. is-task (s .cycle) (getD (s .tasks) i noTiming) (jobOf s i) (S .tasks-sound i l)),
+        is-every _ (s .count) (λ i l. is-task _ _ _ _ (S .tasks-sound i l)),
       ),
 )

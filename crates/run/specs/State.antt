@@ -1,30 +1,47 @@
 -- The state of a run: its tasks and their current jobs, when it is sound, and where a job's byte stands in the log.
 use mathlib.Core.Bool.{Bool, true, false, _&&_, _||_}
+use mathlib.Core.List.{List}
 use Prim.Native.Nat.{ℕ, zero, suc, _+_, _/_, _%_}
 use lib.Dec.{leb, ltb, eqb}
 use lib.ListN.{getD}
+use Rattle.basis.specs.Bytes.{at}
 use Rattle.basis.specs.Sum.{sum}
-use Rattle.run.specs.declared.Timing.{Timing}
-use Rattle.run.specs.declared.Job.{Job}
 use Rattle.run.specs.declared.State.{State}
 
 -- ---- tasks and jobs
-unfoldable pub noTiming : Timing
-noTiming = record { period = 0; runtime = 0 }
+-- Task i, counted from 0: its period,
+unfoldable pub periodOf : State → ℕ → ℕ
+periodOf s i = at (s .periods) i
 
--- A fresh job has 0 used and has not ended.
+-- the deadline of its jobs, counted from the release: the end of the period,
+abbrev pub dueOf : State → ℕ → ℕ
+dueOf s i = periodOf s i
+
+-- the run-time of its job k: the same for all,
+unfoldable pub runtimeOf : State → ℕ → ℕ → ℕ
+runtimeOf s i k = at (s .runtimes) i
+
+-- and what its job k is ranked by.
+abbrev pub keyOf : State → ℕ → ℕ → ℕ
+keyOf s i k = periodOf s i
+
+-- The number of its current job, and how many slices old that job is.
+unfoldable pub currentOf : State → ℕ → ℕ
+currentOf s i = s .position / periodOf s i
+
+unfoldable pub ageOf : State → ℕ → ℕ
+ageOf s i = s .position % periodOf s i
+
+-- The job itself: the slices that it has used, and whether it has ended. A fresh job has 0 used and has not ended.
+pub record Job : Type 0 where
+  pub used : ℕ
+  pub ended : Bool
+
 unfoldable pub fresh : Job
 fresh = record { used = 0; ended = false }
 
--- Task i, counted from 0, and its current job.
-unfoldable pub periodOf : State → ℕ → ℕ
-periodOf s i = getD (s .tasks) i noTiming .period
-
-unfoldable pub runtimeOf : State → ℕ → ℕ
-runtimeOf s i = getD (s .tasks) i noTiming .runtime
-
 unfoldable pub jobOf : State → ℕ → Job
-jobOf s i = getD (s .jobs) i fresh
+jobOf s i = record { used = at (s .used) i; ended = getD (s .ended) i false }
 
 -- ---- soundness
 unfoldable pub within : ℕ → ℕ → ℕ → Bool
@@ -37,14 +54,14 @@ every test (suc n) = every test n && test n
 
 -- Each period from 1 to 4,096 and dividing the cycle; each run-time from 1 to its period; slices used at most the run-time,
 -- and below it unless the job has ended.
-unfoldable pub soundTask : ℕ → Timing → Job → Bool
-soundTask cycle t j =
-    within 1 4096 (t .period) && eqb (cycle % t .period) 0 && within 1 (t .period) (t .runtime) && leb (j .used) (t .runtime) && (j .ended || ltb (j .used) (t .runtime))
+unfoldable pub soundTask : ℕ → ℕ → ℕ → Job → Bool
+soundTask cycle period runtime j =
+    within 1 4096 period && eqb (cycle % period) 0 && within 1 period runtime && leb (j .used) runtime && (j .ended || ltb (j .used) runtime)
 
 -- 1 to 16 tasks; the cycle at most 4,096 and not 0; position from 0 to the cycle; every task as above.
 unfoldable pub sound : State → Bool
 sound s =
-    within 1 16 (s .count) && within 1 4096 (s .cycle) && leb (s .position) (s .cycle) && every (λ i. soundTask (s .cycle) (getD (s .tasks) i noTiming) (jobOf s i)) (s .count)
+    within 1 16 (s .count) && within 1 4096 (s .cycle) && leb (s .position) (s .cycle) && every (λ i. soundTask (s .cycle) (periodOf s i) (runtimeOf s i (currentOf s i)) (jobOf s i)) (s .count)
 
 -- ---- the log
 -- All jobs of task 1, then all of task 2, and so on: the jobs of the tasks before task i,
@@ -57,8 +74,15 @@ jobCount s = offset s (s .count)
 
 -- and the place of the current job of task i.
 unfoldable pub place : State → ℕ → ℕ
-place s i = offset s i + s .position / periodOf s i
+place s i = offset s i + currentOf s i
 
--- The slice at the position is the last before a deadline of task i.
-unfoldable pub lastSlice : State → ℕ → Bool
-lastSlice s i = eqb (suc (s .position) % periodOf s i) 0
+-- (The same of the numbers that it goes by.)
+unfoldable pub placeIn : List ℕ → ℕ → ℕ → ℕ → ℕ
+placeIn periods cycle position i = sum (λ j. cycle / at periods j) i + position / at periods i
+
+-- The slice at the position is the last before the current job's deadline; the last before the task's next release.
+unfoldable pub deadlineNext : State → ℕ → Bool
+deadlineNext s i = eqb (suc (ageOf s i)) (dueOf s i)
+
+unfoldable pub releaseNext : State → ℕ → Bool
+releaseNext s i = eqb (suc (ageOf s i)) (periodOf s i)

@@ -1,18 +1,17 @@
 -- An accepted step leaves a sound state, one slice further on, with the jobs that the rules say.
-use mathlib.Core.Path.{_≡_, refl}
+use mathlib.Core.Path.{_≡_, refl, ap₂}
 use mathlib.Core.List.{List}
 use mathlib.Core.Bool.{true, false, _||_}
 use mathlib.Core.Logic.{⊎-elim}
 use Prim.Native.Nat.{ℕ, suc, _+_, _≤_, _<_}
 use native.Mathlib.Omega.{arith}
 use lib.Dec.{eqb}
-use lib.ListN.{length, List·getD-eq-default}
+use lib.ListN.{length}
 use borrow.Author.Tests.{eqb-false, eq-eqb, ne-eqb}
-use Rattle.basis.specs.Choose.{choose-yes, choose-no, bool-cases, le-or-lt, eq-or-ne, either-false}
-use Rattle.basis.specs.Bytes.{overwrite, overwrite-length, overwrite-at}
-use Rattle.run.specs.declared.Job.{Job}
+use Rattle.basis.specs.Choose.{choose-yes, choose-no, bool-cases, eq-or-ne, either-false}
+use Rattle.basis.specs.Bytes.{overwrite-length, overwrite-at}
 use Rattle.run.specs.declared.State.{State}
-use Rattle.run.specs.State.{fresh, periodOf, runtimeOf, jobOf, offset, jobCount, lastSlice}
+use Rattle.run.specs.State.{Job, fresh, periodOf, dueOf, runtimeOf, keyOf, currentOf, jobOf, offset, jobCount, deadlineNext, releaseNext}
 use Rattle.run.specs.Who.{running}
 use Rattle.run.specs.Step.{afterSlice, jobAfter, stateAfter}
 use Rattle.run.specs.Sound.{SoundTask, SoundState}
@@ -20,7 +19,7 @@ use Rattle.run.specs.Accepted.{StepAccepted, who-runs}
 
 -- ---- a job after the slice
 module _ (s : State) (ran report i : ℕ) where
-  pub slice-here : ran ≡ suc i → afterSlice s ran report i ≡ record { used = jobOf s i .used + 1; ended = eqb report 1 || eqb (jobOf s i .used + 1) (runtimeOf s i) }
+  pub slice-here : ran ≡ suc i → afterSlice s ran report i ≡ record { used = jobOf s i .used + 1; ended = eqb report 1 || eqb (jobOf s i .used + 1) (runtimeOf s i (currentOf s i)) }
   unfolding afterSlice
   slice-here e = choose-yes (eqb ran (suc i)) _ _ (eq-eqb ran (suc i) e)
 
@@ -28,43 +27,59 @@ module _ (s : State) (ran report i : ℕ) where
   unfolding afterSlice
   slice-elsewhere ne = choose-no (eqb ran (suc i)) _ _ (ne-eqb ran (suc i) ne)
 
-  pub job-anew : lastSlice s i ≡ true → jobAfter s ran report i ≡ fresh
+  pub job-anew : releaseNext s i ≡ true → jobAfter s ran report i ≡ fresh
   unfolding jobAfter
-  job-anew e = choose-yes (lastSlice s i) _ _ e
+  job-anew e = choose-yes (releaseNext s i) _ _ e
 
-  pub job-goes-on : lastSlice s i ≡ false → jobAfter s ran report i ≡ afterSlice s ran report i
+  pub job-goes-on : releaseNext s i ≡ false → jobAfter s ran report i ≡ afterSlice s ran report i
   unfolding jobAfter
-  job-goes-on e = choose-no (lastSlice s i) _ _ e
+  job-goes-on e = choose-no (releaseNext s i) _ _ e
+
+  -- A job that goes on and has not ended has its deadline still to come: no job runs on after it, because the deadline is the
+  -- task's next release.
+  pub open-not-late : releaseNext s i ≡ false → jobAfter s ran report i .ended ≡ false → deadlineNext s i ≡ false
+  unfolding releaseNext deadlineNext
+  open-not-late goes-on still-open = goes-on
+
+-- There is a place for every job; the arrays of the code have 16.
+pub record Room (s : State) : Type 0 where
+  pub used-room : s .count ≤ length (s .used)
+  pub ended-room : s .count ≤ length (s .ended)
 
 -- ---- what a step hands on
 -- The tasks, the cycle and the mode stay, and with them the places of the jobs in the log. The position rises by one.
 pub record HandedOn (s after : State) (clock : ℕ) : Type 0 where
-  pub tasks-kept : after .tasks ≡ s .tasks
   pub count-kept : after .count ≡ s .count
   pub cycle-kept : after .cycle ≡ s .cycle
   pub mode-kept : after .mode ≡ s .mode
   pub position-next : after .position ≡ s .position + 1
   pub clock-kept : after .clock ≡ clock
   pub period-kept : (i : ℕ) → periodOf after i ≡ periodOf s i
-  pub runtime-kept : (i : ℕ) → runtimeOf after i ≡ runtimeOf s i
+  pub due-kept : (i : ℕ) → dueOf after i ≡ dueOf s i
+  pub runtime-kept : (i k : ℕ) → runtimeOf after i k ≡ runtimeOf s i k
+  pub key-kept : (i k : ℕ) → keyOf after i k ≡ keyOf s i k
   pub offset-kept : (i : ℕ) → offset after i ≡ offset s i
   pub job-count-kept : jobCount after ≡ jobCount s
-  pub jobs-length : length (after .jobs) ≡ length (s .jobs)
+  pub room-kept : Room s → Room after
 
 pub handed-on : (s : State) (ran clock report : ℕ) → HandedOn s (stateAfter s ran clock report) clock
 unfolding stateAfter periodOf runtimeOf offset jobCount
 handed-on s ran clock report = record {
-  tasks-kept = refl;
   count-kept = refl;
   cycle-kept = refl;
   mode-kept = refl;
   position-next = refl;
   clock-kept = refl;
   period-kept = λ i. refl;
-  runtime-kept = λ i. refl;
+  due-kept = λ i. refl;
+  runtime-kept = λ i k. refl;
+  key-kept = λ i k. refl;
   offset-kept = λ i. refl;
   job-count-kept = refl;
-  jobs-length = overwrite-length (jobAfter s ran report) (s .jobs) (s .count);
+  room-kept = λ R. record {
+    used-room = omega (arith, R .used-room, overwrite-length (λ i. jobAfter s ran report i .used) (s .used) (s .count));
+    ended-room = omega (arith, R .ended-room, overwrite-length (λ i. jobAfter s ran report i .ended) (s .ended) (s .count));
+  };
 }
 
 -- ---- soundness
@@ -101,21 +116,20 @@ module _ (s : State) (table : List ℕ) (clock report : ℕ) (log : List ℕ) (A
   abbrev after : State
   after = stateAfter s ran clock report
 
-  -- The current job of task i, where the state has a place for it.
-  pub job-after : (i : ℕ) → i < s .count → i < length (s .jobs) → jobOf after i ≡ jobAfter s ran report i
+  -- The current job of task i.
+  pub job-after : Room s → (i : ℕ) → i < s .count → jobOf after i ≡ jobAfter s ran report i
   unfolding stateAfter jobOf
-  job-after i l k = overwrite-at (jobAfter s ran report) (s .jobs) fresh (s .count) i l k
-
-  no-place : (i : ℕ) → length (s .jobs) ≤ i → jobOf after i ≡ fresh
-  unfolding stateAfter jobOf
-  no-place i k = List·getD-eq-default (overwrite (jobAfter s ran report) (s .count) (s .jobs)) fresh (omega (arith, overwrite-length (jobAfter s ran report) (s .jobs) (s .count)))
+  job-after R i l =
+      ap₂ (λ u e. record { used = u; ended = e })
+      (overwrite-at (λ k. jobAfter s ran report k .used) (s .used) 0 (s .count) i l (omega (arith, R .used-room)))
+      (overwrite-at (λ k. jobAfter s ran report k .ended) (s .ended) false (s .count) i l (omega (arith, R .ended-room)))
 
   module _ (i : ℕ) (l : i < s .count) where
-    before-sound : SoundTask (s .cycle) (periodOf s i) (runtimeOf s i) (jobOf s i)
+    before-sound : SoundTask (s .cycle) (periodOf s i) (runtimeOf s i (currentOf s i)) (jobOf s i)
     before-sound = A .asked .is-sound .tasks-sound i l
 
     abbrev Sound-with : Job → Type 0
-    Sound-with = SoundTask (s .cycle) (periodOf s i) (runtimeOf s i)
+    Sound-with = SoundTask (s .cycle) (periodOf s i) (runtimeOf s i (currentOf s i))
 
     slice-sound : Sound-with (afterSlice s ran report i)
     slice-sound =
@@ -127,25 +141,18 @@ module _ (s : State) (table : List ℕ) (clock report : ℕ) (log : List ℕ) (A
     turned-sound : Sound-with (jobAfter s ran report i)
     turned-sound =
         ⊎-elim
-        (λ (e : lastSlice s i ≡ true). rw (job-anew s ran report i e) (fresh-sound _ _ _ _ before-sound))
-        (λ (e : lastSlice s i ≡ false). rw (job-goes-on s ran report i e) slice-sound)
-        (bool-cases (lastSlice s i))
+        (λ (e : releaseNext s i ≡ true). rw (job-anew s ran report i e) (fresh-sound _ _ _ _ before-sound))
+        (λ (e : releaseNext s i ≡ false). rw (job-goes-on s ran report i e) slice-sound)
+        (bool-cases (releaseNext s i))
 
-    after-sound : Sound-with (jobOf after i)
-    after-sound =
-        ⊎-elim
-        (λ (k : length (s .jobs) ≤ i). rw (no-place i k) (fresh-sound _ _ _ _ before-sound))
-        (λ (k : i < length (s .jobs)). rw (job-after i l k) turned-sound)
-        (le-or-lt (length (s .jobs)) i)
-
-  -- The state is sound.
-  pub state-after-sound : SoundState after
+  -- The state is sound. (The run-time of a fresh job is that of the job before it.)
+  pub state-after-sound : Room s → SoundState after
   unfolding stateAfter periodOf runtimeOf
-  state-after-sound = record {
+  state-after-sound R = record {
     count-from = A .asked .is-sound .count-from;
     count-to = A .asked .is-sound .count-to;
     cycle-from = A .asked .is-sound .cycle-from;
     cycle-to = A .asked .is-sound .cycle-to;
     position-to = omega (arith, A .asked .not-over);
-    tasks-sound = λ i l. after-sound i l;
+    tasks-sound = λ i l. rw (job-after R i l) (turned-sound i l);
   }

@@ -1,18 +1,18 @@
 -- The step that closes the slice at the state's position: refusals 9 to 14, the log and the next state.
 use mathlib.Core.Path.{_≡_, refl}
 use mathlib.Core.List.{List}
-use mathlib.Core.Bool.{not, _&&_, _||_}
+use mathlib.Core.Bool.{Bool, not, _&&_, _||_}
 use Prim.Native.Nat.{ℕ, zero, suc, _+_, _%_, _^_}
 use lib.Dec.{ltb, eqb}
 use lib.ListN.{length, set}
 use Rattle.basis.specs.Choose.{choose}
 use Rattle.basis.specs.Bytes.{overwrite}
-use Rattle.run.specs.declared.Job.{Job}
+use Rattle.run.specs.declared.Mode.{Mode}
 use Rattle.run.specs.declared.State.{State}
 use Rattle.run.specs.declared.Closed.{Closed}
 use Rattle.run.specs.declared.Closed.the-variants.{Accepted, Refused}
 use Rattle.run.specs.declared.Next.{Next}
-use Rattle.run.specs.State.{fresh, runtimeOf, jobOf, jobCount, place, lastSlice}
+use Rattle.run.specs.State.{Job, fresh, runtimeOf, currentOf, jobOf, jobCount, place, deadlineNext, releaseNext}
 use Rattle.run.specs.Who.{running, orNext, whoRefusal}
 
 -- ---- refusals 12 to 14, after 9 to 11
@@ -42,13 +42,13 @@ stepRefusal s table clock report log =
 unfoldable pub afterSlice : State → ℕ → ℕ → ℕ → Job
 afterSlice s ran report i =
     choose (eqb ran (suc i))
-    (record { used = jobOf s i .used + 1; ended = eqb report 1 || eqb (jobOf s i .used + 1) (runtimeOf s i) })
+    (record { used = jobOf s i .used + 1; ended = eqb report 1 || eqb (jobOf s i .used + 1) (runtimeOf s i (currentOf s i)) })
     (jobOf s i)
 
 -- Finished writes 1 (done) for that job. Still working in the slice that completes its run-time writes 2 (over).
 unfoldable pub resultOf : State → ℕ → ℕ → List ℕ → List ℕ
 resultOf s i report log =
-    choose (eqb report 1) (set log (place s i) 1) (choose (eqb (jobOf s i .used + 1) (runtimeOf s i)) (set log (place s i) 2) log)
+    choose (eqb report 1) (set log (place s i) 1) (choose (eqb (jobOf s i .used + 1) (runtimeOf s i (currentOf s i))) (set log (place s i) 2) log)
 
 unfoldable pub withResult : State → ℕ → ℕ → List ℕ → List ℕ
 withResult s zero report log = log
@@ -58,21 +58,23 @@ withResult s (suc i) report log = resultOf s i report log
 unfoldable pub withLate : State → ℕ → ℕ → List ℕ → ℕ → List ℕ
 withLate s ran report log zero = log
 withLate s ran report log (suc i) =
-    choose (lastSlice s i && not (afterSlice s ran report i .ended)) (set (withLate s ran report log i) (place s i) 3) (withLate s ran report log i)
+    choose (deadlineNext s i && not (afterSlice s ran report i .ended)) (set (withLate s ran report log i) (place s i) 3) (withLate s ran report log i)
 
 unfoldable pub logAfter : State → ℕ → ℕ → List ℕ → List ℕ
 logAfter s ran report log = withLate s ran report (withResult s ran report log) (s .count)
 
--- And each task with a deadline there begins a fresh job.
+-- And each task with a release there begins a fresh job.
 unfoldable pub jobAfter : State → ℕ → ℕ → ℕ → Job
-jobAfter s ran report i = choose (lastSlice s i) fresh (afterSlice s ran report i)
+jobAfter s ran report i = choose (releaseNext s i) fresh (afterSlice s ran report i)
 
 -- The position rises by one. Places beyond the task count are handed on.
 unfoldable pub stateAfter : State → ℕ → ℕ → ℕ → State
 stateAfter s ran clock report =
     record {
-      tasks = s .tasks;
-      jobs = overwrite (jobAfter s ran report) (s .count) (s .jobs);
+      periods = s .periods;
+      runtimes = s .runtimes;
+      used = overwrite (λ i. jobAfter s ran report i .used) (s .count) (s .used);
+      ended = overwrite (λ i. jobAfter s ran report i .ended) (s .count) (s .ended);
       count = s .count;
       cycle = s .cycle;
       position = s .position + 1;
@@ -97,6 +99,17 @@ nextLog (suc n) log after = log
 pub record Stepped (s : State) (table : List ℕ) (clock report : ℕ) (log log′ : List ℕ) (r : Next) : Type 0 where
   pub answer : r .answer ≡ answerOf (stepRefusal s table clock report log)
   pub state : r .state ≡ nextState (stepRefusal s table clock report log) s (stateAfter s (running s table) clock report)
+  pub bytes : log′ ≡ nextLog (stepRefusal s table clock report log) log (logAfter s (running s table) report log)
+
+-- The same of a state that lies in arrays of the caller's, by its parts: what the arrays and the log hold afterwards.
+abbrev pub stateOf : List ℕ → List ℕ → List ℕ → List Bool → ℕ → ℕ → ℕ → ℕ → Mode → State
+stateOf periods runtimes used ended count cycle position clock mode =
+    record { periods = periods; runtimes = runtimes; used = used; ended = ended; count = count; cycle = cycle; position = position; clock = clock; mode = mode }
+
+pub record SteppedIn (s : State) (table : List ℕ) (clock report : ℕ) (log log′ used′ : List ℕ) (ended′ : List Bool) (r : Closed) : Type 0 where
+  pub answer : r ≡ answerOf (stepRefusal s table clock report log)
+  pub used : used′ ≡ nextState (stepRefusal s table clock report log) s (stateAfter s (running s table) clock report) .used
+  pub ended : ended′ ≡ nextState (stepRefusal s table clock report log) s (stateAfter s (running s table) clock report) .ended
   pub bytes : log′ ≡ nextLog (stepRefusal s table clock report log) log (logAfter s (running s table) report log)
 
 -- The paper's number of refusal for each case; 0 for none.

@@ -11,7 +11,7 @@ use Rattle.run.specs.declared.Mode.the-variants.{Table, Filling}
 use Rattle.run.specs.declared.State.{State}
 use Rattle.run.specs.declared.Runner.{Runner}
 use Rattle.run.specs.declared.Runner.the-variants.{Idle, Task, Refused}
-use Rattle.run.specs.State.{periodOf, jobOf, sound}
+use Rattle.run.specs.State.{keyOf, currentOf, jobOf, sound}
 
 -- ---- who runs
 -- By the table, the task of the entry, unless its current job has ended (then idle).
@@ -21,7 +21,7 @@ unlessEnded s (suc i) = choose (jobOf s i .ended) 0 (suc i)
 
 -- Filling, the first-ranking task whose current job has not ended.
 unfoldable pub firstOpen : State → ℕ
-firstOpen s = first (periodOf s) (λ i. choose (jobOf s i .ended) 0 1) (s .count)
+firstOpen s = first (λ i. keyOf s i (currentOf s i)) (λ i. choose (jobOf s i .ended) 0 1) (s .count)
 
 -- An entry: 0 where nobody runs.
 unfoldable pub runningBy : Mode → State → List ℕ → ℕ

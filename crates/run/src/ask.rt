@@ -1,139 +1,143 @@
 // Who runs in the slice at the position, and refusals 9 to 11.
 ghost use mathlib.Core.Path.{_≡_};
-ghost use Prim.Native.Nat.{_≤_};
-ghost use lib.ListN.{getD};
-ghost use Rattle.run.specs.Who.{unlessEnded, firstOpen, running, orNext, of10, of11, whoRefusal};
-ghost use Rattle.run.specs.Accepted.{WhoAccepted};
-ghost use Rattle.run.specs.Shapes.{better};
+ghost use Prim.Native.Nat.{ℕ, _≤_, _<_};
+ghost use Rattle.basis.specs.Bytes.{at};
+ghost use Rattle.basis.specs.Choose.{choose};
+ghost use Rattle.plan.specs.Plan.{firstOf};
+ghost use Rattle.run.specs.Step.{stateOf};
+ghost use Rattle.run.specs.Shapes.{openFirst, tableAsk, Answers};
 use crate::Mode;
-use crate::State;
-use crate::sound::refusal_9;
+use crate::sound::jobs_if_sound;
 
-// The first refusal that applies is given.
-pub(crate) fn or_next(found: u32, next: u32) -> u32
-    ensures { λ r. ⌜ r ≡ orNext found next ⌝ }
+// The deadline of a task's jobs, counted from the release.
+pub(crate) fn due_of(period: u32) -> u32
+    ensures { λ r. ⌜ r ≡ period ⌝ }
 {
-    if found == 0 { next } else { found }
+    period
 }
 
-fn refusal_10(state: State) -> u32
-    ensures { λ r. ⌜ r ≡ of10 state ⌝ }
+// What its jobs are ranked by: smaller first.
+fn key_of(period: u32) -> u32
+    ensures { λ r. ⌜ r ≡ period ⌝ }
 {
-    if state.position == state.cycle { 10 } else { 0 }
+    period
 }
 
-// The byte of a slice, 0 past the table's end.
-fn entry_at(table: &[u8], slice: u32) -> usize
-    ensures { λ r. ⌜ r ≡ getD (now (table .entry)) slice 0 ⌝ }
-{
-    let at = slice as usize;
-    if at < table.len() {
-        table[at] as usize
-    } else {
-        0
-    }
+// What asking comes to: a refusal by its number, or 0 and then the job count and the entry of the task that runs.
+pub(crate) struct Asked {
+    pub(crate) number: u32,
+    pub(crate) jobs: u32,
+    pub(crate) ran: usize,
 }
 
-fn refusal_11(state: State, table: &[u8]) -> u32
-    ensures { λ r. ⌜ r ≡ of11 state (now (table .entry)) ⌝ }
-{
-    let mode = state.mode;
-    let cycle = state.cycle as usize;
-    let count = state.count;
-    match mode {
-        Mode::Filling => 0,
-        Mode::Table => {
-            if table.len() < cycle {
-                return 11;
-            }
-            if count < entry_at(table, state.position) {
-                return 11;
-            }
-            0
-        }
-    }
-}
-
-pub(crate) fn who_refusal(state: State, table: &[u8]) -> u32
-    ensures { λ r. ⌜ r ≡ whoRefusal state (now (table .entry)) ⌝ }
-{
-    or_next(
-        refusal_9(state),
-        or_next(refusal_10(state), refusal_11(state, table)),
-    )
-}
-
-fn unless_ended(state: State, entry: usize) -> usize
-    requires { ⌜ entry ≤ 16 ⌝ }
-    ensures { λ r. ⌜ r ≡ unlessEnded state entry ⌝ }
-{
-    if entry == 0 {
-        return 0;
-    }
-    let jobs = state.jobs;
-    let job = jobs[entry - 1];
-    if job.ended { 0 } else { entry }
-}
-
-// The entry of the first-ranking open task so far, and its period.
-struct Best {
-    entry: usize,
-    period: u32,
-}
-
-// Of equal periods the earlier stays.
-fn better_of(best: Best, i: usize, period: u32, ended: bool) -> Best
-    requires { ⌜ i ≤ 16 ⌝ }
-    ensures { λ r. ⌜ r ≡ better best i period ended ⌝ }
+// Task i against the first-ranking open task so far, by their entries. Of equal keys the earlier stays.
+fn better(periods: &[u32; 16], best: usize, i: usize, ended: bool) -> usize
+    requires { ⌜ (i < 16) × (best ≤ 16) ⌝ }
+    ensures { λ r. ⌜ r ≡ firstOf (at (now (periods .entry))) (choose ended 0 1) i best ⌝ }
 {
     if ended {
         return best;
     }
-    if best.entry == 0 {
-        return Best {
-            entry: i + 1,
-            period,
-        };
+    if best == 0 {
+        return i + 1;
     }
-    if period < best.period {
-        return Best {
-            entry: i + 1,
-            period,
-        };
+    if key_of(periods[i]) < key_of(periods[best - 1]) {
+        return i + 1;
     }
     best
 }
 
-fn first_open(state: State) -> usize
-    requires { ⌜ state .count ≤ 16 ⌝ }
-    ensures { λ r. ⌜ r ≡ firstOpen state ⌝ }
+fn first_open(periods: &[u32; 16], ended: &[bool; 16], count: usize) -> usize
+    requires { ⌜ count ≤ 16 ⌝ }
+    ensures { λ r. ⌜ r ≡ openFirst (now (periods .entry)) (now (ended .entry)) count ⌝ }
 {
-    let tasks = state.tasks;
-    let jobs = state.jobs;
-    let count = state.count;
-    let mut best = Best {
-        entry: 0,
-        period: 0,
-    };
+    let mut best = 0;
     let mut i = 0;
     while i < count {
-        let task = tasks[i];
-        let job = jobs[i];
-        let next = better_of(best, i, task.period, job.ended);
+        let next = better(periods, best, i, ended[i]);
         best = next;
         i += 1;
     }
-    best.entry
+    best
 }
 
-// The entry of the task that runs, 0 for none, where asking is not refused.
-pub(crate) fn running(state: State, table: &[u8]) -> usize
-    requires { ⌜ WhoAccepted state (now table) ⌝ }
-    ensures { λ r. ⌜ r ≡ running state (now (table .entry)) ⌝ }
+fn refusal(number: u32) -> Asked
+    ensures { λ r. ⌜ r ≡ record { number = number; jobs = 0; ran = 0 } ⌝ }
 {
-    let mode = state.mode;
+    Asked {
+        number,
+        jobs: 0,
+        ran: 0,
+    }
+}
+
+// By the table: the task of the entry, unless its current job has ended.
+fn by_table(
+    ended: &[bool; 16],
+    count: usize,
+    cycle: u32,
+    position: u32,
+    jobs: u32,
+    table: &[u8],
+) -> Asked
+    requires { ⌜ (count ≤ 16) × (position < cycle) ⌝ }
+    ensures { λ r. ⌜ r ≡ tableAsk (now (ended .entry)) count cycle position jobs (now (table .entry)) ⌝ }
+{
+    if table.len() < cycle as usize {
+        return refusal(11);
+    }
+    let entry = table[position as usize] as usize;
+    if count < entry {
+        return refusal(11);
+    }
+    if entry == 0 {
+        return Asked {
+            number: 0,
+            jobs,
+            ran: 0,
+        };
+    }
+    if ended[entry - 1] {
+        return Asked {
+            number: 0,
+            jobs,
+            ran: 0,
+        };
+    }
+    Asked {
+        number: 0,
+        jobs,
+        ran: entry,
+    }
+}
+
+// Who runs, in the order of the refusals; whatever the clock.
+pub(crate) fn ask<'a>(
+    periods: &'a [u32; 16],
+    runtimes: &'a [u32; 16],
+    used: &'a [u32; 16],
+    ended: &'a [bool; 16],
+    count: usize,
+    cycle: u32,
+    position: u32,
+    mode: Mode,
+    table: &[u8],
+) -> Asked
+    ensures { λ r. ⌜ ((clock : ℕ) → Answers (stateOf (now (periods .entry)) (now (runtimes .entry)) (now (used .entry)) (now (ended .entry)) count cycle position clock mode) (now (table .entry)) r) ⌝ }
+{
+    let jobs = jobs_if_sound(periods, runtimes, used, ended, count, cycle, position);
+    if jobs == 0 {
+        return refusal(9);
+    }
+    if position == cycle {
+        return refusal(10);
+    }
     match mode {
-        Mode::Table => unless_ended(state, entry_at(table, state.position)),
-        Mode::Filling => first_open(state),
+        Mode::Table => by_table(ended, count, cycle, position, jobs, table),
+        Mode::Filling => Asked {
+            number: 0,
+            jobs,
+            ran: first_open(periods, ended, count),
+        },
     }
 }

@@ -1,13 +1,8 @@
 // Refusal 9: state not sound.
 ghost use mathlib.Core.Path.{_≡_};
-ghost use mathlib.Core.Bool.{_&&_};
 ghost use Prim.Native.Nat.{_≤_};
-ghost use lib.ListN.{getD};
-ghost use Rattle.run.specs.State.{noTiming, jobOf, within, every, soundTask, sound};
-ghost use Rattle.run.specs.Who.{of9};
-use crate::Job;
-use crate::State;
-use crate::Timing;
+ghost use Rattle.run.specs.State.{within, soundTask};
+ghost use Rattle.run.specs.Shapes.{job, jobsOf, jobsIfSound};
 
 fn is_within(low: u32, high: u32, x: u32) -> bool
     ensures { λ r. ⌜ r ≡ within low high x ⌝ }
@@ -15,18 +10,9 @@ fn is_within(low: u32, high: u32, x: u32) -> bool
     if x < low { false } else { x <= high }
 }
 
-fn both(a: bool, b: bool) -> bool
-    ensures { λ r. ⌜ r ≡ a && b ⌝ }
+fn sound_task(cycle: u32, period: u32, runtime: u32, used: u32, ended: bool) -> bool
+    ensures { λ r. ⌜ r ≡ soundTask cycle period runtime (job used ended) ⌝ }
 {
-    if a { b } else { false }
-}
-
-fn sound_task(cycle: u32, task: Timing, job: Job) -> bool
-    ensures { λ r. ⌜ r ≡ soundTask cycle task job ⌝ }
-{
-    let period = task.period;
-    let runtime = task.runtime;
-    let used = job.used;
     if !is_within(1, 4096, period) {
         return false;
     }
@@ -39,55 +25,60 @@ fn sound_task(cycle: u32, task: Timing, job: Job) -> bool
     if runtime < used {
         return false;
     }
-    if job.ended {
+    if ended {
         return true;
     }
     used < runtime
 }
 
-// Every task up to the count; places beyond it are not looked at.
-fn sound_tasks(state: State) -> bool
-    requires { ⌜ state .count ≤ 16 ⌝ }
-    ensures { λ r. ⌜ r ≡ every (λ i. soundTask (state .cycle) (getD (state .tasks) i noTiming) (jobOf state i)) (state .count) ⌝ }
+// The jobs of all tasks, or 0 where one of them is not sound.
+fn count_jobs<'a>(
+    periods: &'a [u32; 16],
+    runtimes: &'a [u32; 16],
+    used: &'a [u32; 16],
+    ended: &'a [bool; 16],
+    count: usize,
+    cycle: u32,
+) -> u32
+    requires { ⌜ (1 ≤ count) × (count ≤ 16) × (1 ≤ cycle) × (cycle ≤ 4096) ⌝ }
+    ensures { λ r. ⌜ r ≡ jobsOf (now (periods .entry)) (now (runtimes .entry)) (now (used .entry)) (now (ended .entry)) count cycle ⌝ }
 {
-    let tasks = state.tasks;
-    let jobs = state.jobs;
-    let count = state.count;
-    let cycle = state.cycle;
-    let mut fine = true;
+    let mut jobs: u32 = 0;
     let mut i = 0;
     while i < count {
-        let task = tasks[i];
-        let job = jobs[i];
-        fine = both(fine, sound_task(cycle, task, job));
+        let period = periods[i];
+        if !sound_task(cycle, period, runtimes[i], used[i], ended[i]) {
+            return 0;
+        }
+        jobs += cycle / period;
         i += 1;
     }
-    fine
+    jobs
 }
 
-fn is_sound(state: State) -> bool
-    ensures { λ r. ⌜ r ≡ sound state ⌝ }
+// The job count of a sound state, 0 of any other. Places beyond the task count are not looked at.
+pub(crate) fn jobs_if_sound<'a>(
+    periods: &'a [u32; 16],
+    runtimes: &'a [u32; 16],
+    used: &'a [u32; 16],
+    ended: &'a [bool; 16],
+    count: usize,
+    cycle: u32,
+    position: u32,
+) -> u32
+    ensures { λ r. ⌜ r ≡ jobsIfSound (now (periods .entry)) (now (runtimes .entry)) (now (used .entry)) (now (ended .entry)) count cycle position ⌝ }
 {
-    let count = state.count;
-    let cycle = state.cycle;
-    let position = state.position;
     if count < 1 {
-        return false;
+        return 0;
     }
     if 16 < count {
-        return false;
+        return 0;
     }
     if !is_within(1, 4096, cycle) {
-        return false;
+        return 0;
     }
     if cycle < position {
-        return false;
+        return 0;
     }
-    sound_tasks(state)
-}
-
-pub(crate) fn refusal_9(state: State) -> u32
-    ensures { λ r. ⌜ r ≡ of9 state ⌝ }
-{
-    if is_sound(state) { 0 } else { 9 }
+    count_jobs(periods, runtimes, used, ended, count, cycle)
 }

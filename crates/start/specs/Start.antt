@@ -1,15 +1,15 @@
 -- A start: the list is checked anew, and the run begins at slice 0 with every job fresh and the log cleared to no result.
 use mathlib.Core.Path.{_≡_}
 use mathlib.Core.List.{List}
+use mathlib.Core.Bool.{false}
 use Prim.Native.Nat.{ℕ}
 use lib.Dec.{ltb}
 use lib.IntN.{ℤ, pos}
 use lib.ListN.{length, replicate}
 use Rattle.basis.specs.Choose.{choose}
 use Rattle.basis.specs.Bytes.{overwrite}
-use Rattle.tasks.specs.declared.Task.{Task}
 use Rattle.tasks.specs.declared.TaskList.{TaskList}
-use Rattle.tasks.specs.List.{taskAt}
+use Rattle.tasks.specs.List.{taskAt, runtimeOf}
 use Rattle.verdict.specs.declared.Verdict.{Verdict}
 use Rattle.verdict.specs.declared.Verdict.the-variants as verdict
 use Rattle.verdict.specs.Verdict.{verdictOf}
@@ -19,10 +19,8 @@ use Rattle.start.specs.declared.Begun.{Begun}
 use Rattle.start.specs.declared.Begun.the-variants as begun
 use Rattle.run.specs.declared.Mode.{Mode}
 use Rattle.run.specs.declared.Mode.the-variants as mode
-use Rattle.run.specs.declared.Timing.{Timing}
 use Rattle.run.specs.declared.State.{State}
 use Rattle.start.specs.declared.Started.{Started}
-use Rattle.run.specs.State.{noTiming, fresh}
 
 -- ---- the state
 -- A start with no mode named runs by the table.
@@ -31,19 +29,14 @@ modeOf asked.Table = mode.Table
 modeOf asked.Filling = mode.Filling
 modeOf asked.Unnamed = mode.Table
 
-unfoldable pub timingOf : Task → Timing
-timingOf t = record { period = t .period; runtime = t .runtime }
-
--- Task places beyond the task count are 0.
-unfoldable pub timings : TaskList → List Timing
-timings l = overwrite (λ i. timingOf (taskAt (l .tasks) i)) (l .count) (replicate 16 noTiming)
-
--- Every job fresh, at slice 0, with no job ended.
+-- Every job fresh, at slice 0, with no job ended. Task places beyond the task count are 0.
 unfoldable pub startState : TaskList → ℕ → Mode → ℕ → State
 startState l cycle m clock =
     record {
-      tasks = timings l;
-      jobs = replicate 16 fresh;
+      periods = overwrite (λ i. taskAt (l .tasks) i .period) (l .count) (replicate 16 0);
+      runtimes = overwrite (λ i. runtimeOf (taskAt (l .tasks) i) 0) (l .count) (replicate 16 0);
+      used = replicate 16 0;
+      ended = replicate 16 false;
       count = l .count;
       cycle = cycle;
       position = 0;
@@ -55,8 +48,10 @@ startState l cycle m clock =
 unfoldable pub noRun : State
 noRun =
     record {
-      tasks = replicate 16 noTiming;
-      jobs = replicate 16 fresh;
+      periods = replicate 16 0;
+      runtimes = replicate 16 0;
+      used = replicate 16 0;
+      ended = replicate 16 false;
       count = 0;
       cycle = 0;
       position = 0;

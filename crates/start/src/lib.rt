@@ -3,12 +3,12 @@ ghost use mathlib.Core.Path.{_≡_};
 ghost use Prim.Native.Nat.{_≤_};
 ghost use lib.ListN.{length};
 ghost use Rattle.basis.specs.Bytes.{overwrite};
-ghost use Rattle.start.specs.Start.{modeOf, timings, startState, noRun, Begins};
-use run::Job;
+ghost use Rattle.tasks.specs.List.{taskAt, runtimeOf};
+ghost use Rattle.start.specs.Start.{modeOf, startState, noRun, Begins};
 use run::Mode;
 use run::State;
-use run::Timing;
 use tasks::TaskList;
+use tasks::runtime_of;
 use verdict::Verdict;
 
 // What a start is asked for: a mode, or none named.
@@ -44,39 +44,32 @@ fn mode_of(asked: Asked) -> Mode
     }
 }
 
-// Periods and run-times of the tasks; places beyond the task count are 0.
-fn timings_of(list: TaskList) -> [Timing; 16]
+// Periods and run-times of the tasks; places beyond the task count stay.
+fn read(list: TaskList, periods: &mut [u32; 16], runtimes: &mut [u32; 16])
     requires { ⌜ list .count ≤ 16 ⌝ }
-    ensures { λ r. ⌜ r ≡ timings list ⌝ }
+    ensures { λ _. ⌜ (now (periods .exit) ≡ overwrite (λ i. taskAt (list .tasks) i .period) (list .count) (now (periods .entry))) × (now (runtimes .exit) ≡ overwrite (λ i. runtimeOf (taskAt (list .tasks) i) 0) (list .count) (now (runtimes .entry))) ⌝ }
 {
-    let tasks = list.tasks;
-    let count = list.count;
-    let mut times = [Timing {
-        period: 0,
-        runtime: 0,
-    }; 16];
     let mut i = 0;
-    while i < count {
-        let t = tasks[i];
-        times[i] = Timing {
-            period: t.period,
-            runtime: t.runtime,
-        };
+    while i < list.count {
+        let task = list.tasks[i];
+        periods[i] = task.period;
+        runtimes[i] = runtime_of(task);
         i += 1;
     }
-    times
 }
 
 fn begin(list: TaskList, cycle: u32, asked: Asked, clock: u32) -> State
     requires { ⌜ list .count ≤ 16 ⌝ }
     ensures { λ r. ⌜ r ≡ startState list cycle (modeOf asked) clock ⌝ }
 {
+    let mut periods = [0u32; 16];
+    let mut runtimes = [0u32; 16];
+    read(list, &mut periods, &mut runtimes);
     State {
-        tasks: timings_of(list),
-        jobs: [Job {
-            used: 0,
-            ended: false,
-        }; 16],
+        periods,
+        runtimes,
+        used: [0u32; 16],
+        ended: [false; 16],
         count: list.count,
         cycle,
         position: 0,
@@ -90,14 +83,10 @@ fn no_run() -> State
     ensures { λ r. ⌜ r ≡ noRun ⌝ }
 {
     State {
-        tasks: [Timing {
-            period: 0,
-            runtime: 0,
-        }; 16],
-        jobs: [Job {
-            used: 0,
-            ended: false,
-        }; 16],
+        periods: [0u32; 16],
+        runtimes: [0u32; 16],
+        used: [0u32; 16],
+        ended: [false; 16],
         count: 0,
         cycle: 0,
         position: 0,

@@ -13,7 +13,7 @@ use Rattle.basis.specs.Sum.{sum-grows}
 use Rattle.tasks.specs.declared.Task.{Task}
 use Rattle.tasks.specs.declared.TaskList.{TaskList}
 use Rattle.tasks.specs.declared.Finding.{Finding}
-use Rattle.plan.specs.Plan.{Monotonic}
+use Rattle.plan.specs.Plan.{Sound, Monotonic}
 use Rattle.tasks.specs.declared.Bounds.the-variants.{Kept, Broken}
 use Rattle.tasks.specs.List.{taskAt, planOf}
 use Rattle.tasks.specs.Euclid.{LeastCommonMultiple, lcm-is-least, lcm-pos}
@@ -236,15 +236,19 @@ module _ (l : TaskList) (supply : ℕ) (K : KeepsBounds l supply) where
   unfolding cycleOf
   cycle-least = multiple-least (l .tasks) (l .count) (λ i li. K .fits i li .period-from)
 
-  -- The plan of such a list is rate-monotonic, and no period is longer than the cycle.
+  -- The plan of such a list is sound and rate-monotonic, and no period is longer than the cycle.
+  pub plan-sound : Sound (planOf l)
+  unfolding planOf
+  plan-sound = record {
+    period-pos = λ i li. K .fits i li .period-from;
+    due-pos = λ i li. K .fits i li .period-from;
+    due-within = λ i li. omega arith;
+  }
+
   pub plan-monotonic : Monotonic (planOf l)
   unfolding planOf
   plan-monotonic = record {
-    sound = record {
-      period-pos = λ i li. K .fits i li .period-from;
-      due-pos = λ i li. K .fits i li .period-from;
-      due-within = λ i li. omega arith;
-    };
+    sound = plan-sound;
     one-runtime = λ i k li. refl;
     runtime-pos = λ i li. K .fits i li .runtime-from;
     by-deadline = λ i k li. refl;

@@ -1,7 +1,7 @@
 -- Laws of lateness: none is found exactly if every job is on time, and what is told by one that is found.
 use mathlib.Core.Path.{_≡_, refl, sym, ap, _∙_}
 use mathlib.Core.Logic.{⊎-elim, _↔_}
-use Prim.Native.Nat.{ℕ, zero, suc, _+_, _-_, _≤_, _<_}
+use Prim.Native.Nat.{ℕ, zero, suc, _+_, _-_, _<_}
 use native.Mathlib.Omega.{arith}
 use native.Mathlib.Nat.{suc-inj, add-suc}
 use borrow.Author.Tests.{eq-eqb, ne-eqb}
@@ -186,15 +186,6 @@ module _ (P : Plan) where
   pub late-stays : (t n : ℕ) → (lateness P t .task ≡ 0 → ⊥) → lateness P (t + n) ≡ lateness P t
   late-stays t zero nz = ap (lateness P) (omega arith)
   late-stays t (suc n) nz = ap (lateness P) (add-suc t n) ∙ late-next (t + n) (lateness P t) nz (late-stays t n nz)
-
-  pub none-before : (t n : ℕ) → t ≤ n → lateness P n .task ≡ 0 → lateness P t .task ≡ 0
-  none-before t n le z =
-      ⊎-elim
-      (λ (y : lateness P t .task ≡ 0). y)
-      (λ (nz : lateness P t .task ≡ 0 → ⊥).
-      let e : n ≡ t + (n - t) = omega arith in
-      absurd (nz (ap (λ (x : Late). x .task) (sym (late-stays t (n - t) nz) ∙ sym (ap (lateness P) e)) ∙ z)))
-      (eq-or-ne (lateness P t .task) 0)
 
   -- without a task there is nothing lacking
   nobody : (f : ℕ → ℕ) (e : ℕ) → e ≡ 0 → lateBy f e .short ≡ 0

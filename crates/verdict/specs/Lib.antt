@@ -10,3 +10,4 @@ pub mod Answers
 pub mod Shapes
 pub mod Insertion
 pub mod Walk
+pub mod Settling

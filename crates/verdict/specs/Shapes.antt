@@ -29,12 +29,27 @@ pub record Room (order periods dues runtimes : List ℕ) : Type 0 where
   pub dues-room : 16 ≤ length dues
   pub runtimes-room : 16 ≤ length runtimes
 
+-- ---- entries
+-- Bytes from a to b, b not included, hold one entry, and the others are as they were.
+pub record Filled (table : List ℕ) (a b entry : ℕ) (table′ : List ℕ) : Type 0 where
+  pub long : length table′ ≡ length table
+  pub filled : (x : ℕ) → a ≤ x → x < b → at table′ x ≡ entry
+  pub elsewhere : (x : ℕ) → (x < a) ⊎ (b ≤ x) → at table′ x ≡ at table x
+
+-- The entries of the slices from slice t on, up to another.
+pub record Written (order lacks table : List ℕ) (n t to : ℕ) (table′ : List ℕ) : Type 0 where
+  pub long : length table′ ≡ length table
+  pub entries : (s : ℕ) → t + s < to → GoesTo order (at lacks) n s (at table′ (t + s))
+  pub elsewhere : (x : ℕ) → (x < t) ⊎ (to ≤ x) → at table′ x ≡ at table x
+
 -- ---- a turn
--- It begins at slice `from` and ends at slice r, where the task has what it lacks or the next event is.
-pub record HandedOne (dues lacks ends : List ℕ) (k t from next : ℕ) (lacks′ ends′ : List ℕ) (r : ℕ) : Type 0 where
+-- It begins at slice `from` and ends at slice r, where the task has what it lacks or the next event is. Its entries are written
+-- where there is room up to the next event.
+pub record HandedOne (order dues lacks ends table : List ℕ) (k t from next : ℕ) (lacks′ ends′ table′ : List ℕ) (r : ℕ) : Type 0 where
   pub to-is : r ≡ from + min (at lacks k) (next - from)
   pub lacks-are : lacks′ ≡ set lacks k (at lacks k - min (at lacks k) (next - from))
   pub ends-are : ends′ ≡ set ends k (choose (ltb t (at dues k) && ltb from r) r (at ends k))
+  pub writes : next ≤ length table → Filled table from r (at order k + 1) table′
 
 -- ---- m slices handed out from slice t on
 -- The turn of the task at place k ends after so many of them.
@@ -45,21 +60,11 @@ until lack k m = min m (sum lack (suc k))
 unfoldable pub endAfter : List ℕ → List ℕ → List ℕ → ℕ → ℕ → ℕ → ℕ
 endAfter dues lacks ends t m k = choose (ltb t (at dues k) && ltb (sum (at lacks) k) (until (at lacks) k m)) (t + until (at lacks) k m) (at ends k)
 
-pub record HandedOut (dues lacks ends : List ℕ) (n t m : ℕ) (lacks′ ends′ : List ℕ) : Type 0 where
-  pub lacks-are : lacks′ ≡ overwrite (λ k. left (at lacks) k m) n lacks
-  pub ends-are : ends′ ≡ overwrite (endAfter dues lacks ends t m) n ends
-
--- Bytes from a to b, b not included, hold one entry, and the others are as they were.
-pub record Filled (table : List ℕ) (a b entry : ℕ) (table′ : List ℕ) : Type 0 where
-  pub long : length table′ ≡ length table
-  pub filled : (x : ℕ) → a ≤ x → x < b → at table′ x ≡ entry
-  pub elsewhere : (x : ℕ) → (x < a) ⊎ (b ≤ x) → at table′ x ≡ at table x
-
--- The entries of these slices.
-pub record WrittenOut (order lacks table : List ℕ) (n t m : ℕ) (table′ : List ℕ) : Type 0 where
-  pub long : length table′ ≡ length table
-  pub entries : (s : ℕ) → s < m → GoesTo order (at lacks) n s (at table′ (t + s))
-  pub elsewhere : (x : ℕ) → (x < t) ⊎ (t + m ≤ x) → at table′ x ≡ at table x
+-- The slices that are left over are idle, which entries are before they are written.
+pub record HandedOut (order dues lacks ends table : List ℕ) (n t next : ℕ) (lacks′ ends′ table′ : List ℕ) : Type 0 where
+  pub lacks-are : lacks′ ≡ overwrite (λ k. left (at lacks) k (next - t)) n lacks
+  pub ends-are : ends′ ≡ overwrite (endAfter dues lacks ends t (next - t)) n ends
+  pub writes : next ≤ length table → ((x : ℕ) → t ≤ x → at table x ≡ 0) → Written order lacks table n t next table′
 
 -- ---- what happens at slice t to a task with its next event at `event`
 -- its numbers are small

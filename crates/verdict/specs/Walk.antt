@@ -16,11 +16,14 @@ use Rattle.plan.specs.Plan.{Plan, Sound, release, deadline, job, age, keyIn, ge
 use Rattle.plan.specs.Run.{release-age, lacks, lacks-open, lacks-shut}
 use Rattle.plan.specs.Order.{Ranked, ranked-first, one-place, FirstIn}
 use Rattle.plan.specs.Events.{nextEvent, event-open, event-by-release, deadline-not-before, event-inside, ComesTo, before-event, at-deadline, at-release, left, GoesTo, entry-goes, after-left}
+use Rattle.tasks.specs.declared.TaskList.{TaskList}
+use Rattle.tasks.specs.List.{planOf}
+use Rattle.tasks.specs.Bounds.{cycleOf}
 use Rattle.verdict.specs.declared.Late.{Late}
 use Rattle.verdict.specs.Lateness.{received, missing, missedAt, lateBy, lateness}
 use Rattle.verdict.specs.Deadlines.{nothing-late, earlier-second}
 use Rattle.verdict.specs.Ends.{endBy, end-got, end-kept, end-shut}
-use Rattle.verdict.specs.Shapes.{until, endAfter, HandedOut, missingOf, turned, eventThen, releaseThen, lackThen, LateIn}
+use Rattle.verdict.specs.Shapes.{Bounded, until, endAfter, missingOf, turned, eventThen, releaseThen, lackThen, LateIn}
 
 -- ---- the arrays
 -- They show the plan: place k of each belongs to the k-th task by rank.
@@ -31,6 +34,14 @@ pub record Shows (P : Plan) (order periods dues runtimes : List ℕ) : Type 0 wh
   pub runtime-is : (k j : ℕ) → k < P .count → at runtimes k ≡ P .runtime (at order k) j
   pub dues-room : P .count ≤ length dues
   pub runtimes-room : P .count ≤ length runtimes
+
+-- They show a list of n tasks that keeps its bounds, with its cycle.
+pub record Shown (n cycle : ℕ) (order periods dues runtimes : List ℕ) : Type 0 where
+  pub list : TaskList
+  pub bounded : Bounded list
+  pub count-is : n ≡ list .count
+  pub cycle-is : cycle ≡ cycleOf list
+  pub shows : Shows (planOf list) order periods dues runtimes
 
 -- Before slice t they hold what each task lacks, when its current job was released, its next event and the end of its first job.
 pub record Holds (P : Plan) (t : ℕ) (order lacks′ releases events ends : List ℕ) : Type 0 where
@@ -111,11 +122,11 @@ module _ (P : Plan) (S : Sound P) (order periods dues runtimes : List ℕ) (W : 
   on-time-so-far = nothing-late P S u .1 (on-time-inside (nothing-late P S t .0 Z))
 
   -- ---- the slices are handed out
-  module _ (lacks₁ ends₁ : List ℕ) (G : HandedOut dues lacks₀ ends n t (suc s) lacks₁ ends₁) where
+  module _ (lacks₁ ends₁ : List ℕ) (lacks-are : lacks₁ ≡ overwrite (λ k. left (at lacks₀) k (suc s)) n lacks₀) (ends-are : ends₁ ≡ overwrite (endAfter dues lacks₀ ends t (suc s)) n ends) where
     lack-after : (k : ℕ) → k < n → at lacks₁ k ≡ lacks P (P .runtime) (P .runtime) u (at order k) - gets (table P u) (at order k)
     unfolding table
     lack-after k lk =
-        ap (λ (l : List ℕ). at l k) (G .lacks-are)
+        ap (λ (l : List ℕ). at l k) (lacks-are)
         ∙ overwrite-at _ lacks₀ 0 n k lk (omega (arith, H .lacks-room))
         ∙ sym (after-left P S (P .runtime) t (suc s) quiet-task order (W .ranked t) (at lacks₀) (H .lack-is) s (omega arith) k lk)
 
@@ -242,7 +253,7 @@ module _ (P : Plan) (S : Sound P) (order periods dues runtimes : List ℕ) (W : 
       end-after : at ends₁ k ≡ endBy P next task
       unfolding endAfter endWith
       end-after =
-          ap (λ (l : List ℕ). at l k) (G .ends-are)
+          ap (λ (l : List ℕ). at l k) (ends-are)
           ∙ overwrite-at _ ends 0 n k lk (omega (arith, H .ends-room))
           ∙ ⊎-elim
           (λ (o : P .due task ≤ t).
@@ -302,7 +313,7 @@ module _ (P : Plan) (S : Sound P) (order periods dues runtimes : List ℕ) (W : 
             lacks-room = omega (arith, ap length el, overwrite-length (lackThen periods dues runtimes releases events lacks₁ next) lacks₁ n, lacks₁-room);
             releases-room = omega (arith, ap length er, overwrite-length (releaseThen periods dues runtimes releases events lacks₁ next) releases n, H .releases-room);
             events-room = omega (arith, ap length ee, overwrite-length (eventThen periods dues runtimes releases events lacks₁ next) events n, H .events-room);
-            ends-room = omega (arith, ap length (G .ends-are), overwrite-length (endAfter dues lacks₀ ends t (suc s)) ends n, H .ends-room);
+            ends-room = omega (arith, ap length (ends-are), overwrite-length (endAfter dues lacks₀ ends t (suc s)) ends n, H .ends-room);
             lack-is = λ k lk. ap (λ (l : List ℕ). at l k) el ∙ overwrite-at _ lacks₁ 0 n k lk (omega (arith, lacks₁-room)) ∙ sym (comes-to k lk .lack-is);
             release-is = λ k lk. ap (λ (l : List ℕ). at l k) er ∙ overwrite-at _ releases 0 n k lk (omega (arith, H .releases-room)) ∙ sym (comes-to k lk .release-is);
             event-is = λ k lk. ap (λ (l : List ℕ). at l k) ee ∙ overwrite-at _ events 0 n k lk (omega (arith, H .events-room)) ∙ sym (comes-to k lk .event-is);
@@ -310,8 +321,11 @@ module _ (P : Plan) (S : Sound P) (order periods dues runtimes : List ℕ) (W : 
           })
         where
           lacks₁-room : n ≤ length lacks₁
-          lacks₁-room = omega (arith, ap length (G .lacks-are), overwrite-length (λ k. left (at lacks₀) k (suc s)) lacks₀ n, H .lacks-room)
+          lacks₁-room = omega (arith, ap length (lacks-are), overwrite-length (λ k. left (at lacks₀) k (suc s)) lacks₀ n, H .lacks-room)
 
--- The ends of the first jobs after slice t.
-pub record EndsAre (P : Plan) (t : ℕ) (order ends : List ℕ) : Type 0 where
-  pub end-is : (k : ℕ) → k < P .count → at ends k ≡ endBy P t (at order k)
+-- ---- the whole cycle
+-- The first missed deadline; if there is none, the ends of the first jobs, and the entries where there is room for all.
+pub record Walked (P : Plan) (cycle : ℕ) (order table₀ ends table₁ : List ℕ) (late : Late) : Type 0 where
+  pub late-is : late ≡ lateness P cycle
+  pub end-is : late .task ≡ 0 → (k : ℕ) → k < P .count → at ends k ≡ endBy P cycle (at order k)
+  pub entries-are : late .task ≡ 0 → cycle ≤ length table₀ → table₁ ≡ overwrite (table P) cycle table₀

@@ -3,16 +3,15 @@ mod order; // the tasks by rank
 mod walk; // the slice rule over a cycle, from event to event
 
 ghost use mathlib.Core.Path.{_≡_};
-ghost use Prim.Native.Nat.{_≤_};
+ghost use Prim.Native.Nat.{ℕ, _≤_};
 ghost use lib.ListN.{length};
-ghost use Rattle.basis.specs.Bytes.{overwrite};
-ghost use Rattle.plan.specs.Plan.{table as slices};
-ghost use Rattle.tasks.specs.List.{planOf};
+ghost use Rattle.basis.specs.Bytes.{at, overwrite};
 ghost use Rattle.tasks.specs.Bounds.{cycleOf};
-ghost use Rattle.verdict.specs.Lateness.{lateness};
-ghost use Rattle.verdict.specs.Verdict.{judged, verdictOf};
-ghost use Rattle.verdict.specs.Table.{Built};
+ghost use Rattle.verdict.specs.Verdict.{verdictOf};
+ghost use Rattle.verdict.specs.Table.{fitted, tabled, Built};
 ghost use Rattle.verdict.specs.Shapes.{Bounded};
+ghost use Rattle.verdict.specs.Walk.{Shown};
+ghost use Rattle.verdict.specs.Settling.{Concluded, Settled};
 use tasks::Bounds;
 use tasks::TaskList;
 
@@ -38,18 +37,31 @@ pub struct Late {
     pub short: u32,
 }
 
-// A list that keeps all bounds is refused for lateness, or accepted.
-fn decide(list: TaskList, cycle: u32, jobs: u32) -> Verdict
-    requires { ⌜ Bounded list × (cycle ≡ cycleOf list) ⌝ }
-    ensures { λ r. ⌜ r ≡ judged (planOf list) cycle jobs (lateness (planOf list) cycle) ⌝ }
+// Refused for lateness, or accepted. Accepted, the entries are the table's, if there are enough of them.
+fn conclude(
+    order: &[usize; 16],
+    periods: &[u32; 16],
+    dues: &[u32; 16],
+    runtimes: &[u32; 16],
+    count: usize,
+    cycle: u32,
+    jobs: u32,
+    entries: &mut [u8],
+) -> Verdict
+    requires { ⌜ Shown count cycle (now order) (now periods) (now dues) (now runtimes) × ((x : ℕ) → at (now entries) x ≡ 0) ⌝ }
+    ensures { λ r. ⌜ ((S : Shown count cycle (now (order .entry)) (now (periods .entry)) (now (dues .entry)) (now (runtimes .entry))) → Concluded (S .list) cycle jobs (now (entries .entry)) (now (entries .exit)) r) ⌝ }
 {
-    let mut order = [0usize; 16];
-    let mut periods = [0u32; 16];
-    let mut dues = [0u32; 16];
-    let mut runtimes = [0u32; 16];
     let mut ends = [0u32; 16];
-    order::by_rank(list, &mut order, &mut periods, &mut dues, &mut runtimes);
-    let late = walk::simulate(list, &order, &periods, &dues, &runtimes, cycle, &mut ends);
+    let late = walk::simulate(
+        order,
+        periods,
+        dues,
+        runtimes,
+        count,
+        cycle,
+        &mut ends,
+        entries,
+    );
     if late.task != 0 {
         let short = late.short as i32;
         return Verdict::Refused {
@@ -58,7 +70,7 @@ fn decide(list: TaskList, cycle: u32, jobs: u32) -> Verdict
             margin: 0 - short,
         };
     }
-    let best = walk::tightest(&dues, &ends, list.count);
+    let best = walk::tightest(dues, &ends, count);
     let margin = dues[best] - ends[best];
     Verdict::Accepted {
         cycle,
@@ -68,9 +80,98 @@ fn decide(list: TaskList, cycle: u32, jobs: u32) -> Verdict
     }
 }
 
-// The verdict on a list.
-pub fn judge(list: TaskList, supply: u32) -> Verdict
-    ensures { λ r. ⌜ r ≡ verdictOf list supply ⌝ }
+// Copies the entries of a cycle into the table.
+fn copy(entries: &[u8], cycle: usize, table: &mut [u8])
+    requires { ⌜ (cycle ≤ length (now entries)) × (cycle ≤ length (now table)) ⌝ }
+    ensures { λ r. ⌜ now (table .exit) ≡ overwrite (at (now (entries .entry))) cycle (now (table .entry)) ⌝ }
+{
+    let mut t = 0;
+    while t < cycle {
+        table[t] = entries[t];
+        t += 1;
+    }
+}
+
+// Nothing may be written before the verdict, so the entries are written aside, and copied if the list is accepted.
+fn with_table(
+    order: &[usize; 16],
+    periods: &[u32; 16],
+    dues: &[u32; 16],
+    runtimes: &[u32; 16],
+    count: usize,
+    cycle: u32,
+    jobs: u32,
+    entries: &mut [u8],
+    table: &mut [u8],
+) -> Verdict
+    requires { ⌜ Shown count cycle (now order) (now periods) (now dues) (now runtimes) × ((x : ℕ) → at (now entries) x ≡ 0) × (cycle ≤ length (now entries)) × (cycle ≤ length (now table)) ⌝ }
+    ensures { λ r. ⌜ ((S : Shown count cycle (now (order .entry)) (now (periods .entry)) (now (dues .entry)) (now (runtimes .entry))) → Settled (S .list) cycle jobs (now (table .entry)) (now (table .exit)) r) ⌝ }
+{
+    let answer = conclude(order, periods, dues, runtimes, count, cycle, jobs, entries);
+    let Verdict::Accepted { .. } = answer else {
+        return answer;
+    };
+    copy(entries, cycle as usize, table);
+    answer
+}
+
+// A list that keeps all bounds is refused for lateness, or accepted, with its table if that is long enough.
+fn decide(list: TaskList, cycle: u32, jobs: u32, table: &mut [u8]) -> Verdict
+    requires { ⌜ Bounded list × (cycle ≡ cycleOf list) ⌝ }
+    ensures { λ r. ⌜ Settled list cycle jobs (now (table .entry)) (now (table .exit)) r ⌝ }
+{
+    let mut order = [0usize; 16];
+    let mut periods = [0u32; 16];
+    let mut dues = [0u32; 16];
+    let mut runtimes = [0u32; 16];
+    order::by_rank(list, &mut order, &mut periods, &mut dues, &mut runtimes);
+    let count = list.count;
+    let slices = cycle as usize;
+    if table.len() < slices {
+        let mut none = [0u8; 0];
+        return conclude(
+            &order,
+            &periods,
+            &dues,
+            &runtimes,
+            count,
+            cycle,
+            jobs,
+            &mut none,
+        );
+    }
+    // a short cycle has fewer entries, which are sooner made
+    if cycle <= 256 {
+        let mut entries = [0u8; 256];
+        return with_table(
+            &order,
+            &periods,
+            &dues,
+            &runtimes,
+            count,
+            cycle,
+            jobs,
+            &mut entries,
+            table,
+        );
+    }
+    let mut entries = [0u8; 4096];
+    with_table(
+        &order,
+        &periods,
+        &dues,
+        &runtimes,
+        count,
+        cycle,
+        jobs,
+        &mut entries,
+        table,
+    )
+}
+
+// The verdict, and the table of an accepted list if it is long enough.
+fn settle(list: TaskList, supply: u32, table: &mut [u8]) -> Verdict
+    ensures { λ r. ⌜ (r ≡ verdictOf list supply) × (now (table .exit) ≡ tabled list (fitted r (length (now (table .entry)))) (now (table .entry))) ⌝ }
 {
     match tasks::check_bounds(list, supply) {
         Bounds::Broken { number, task } => Verdict::Refused {
@@ -78,28 +179,23 @@ pub fn judge(list: TaskList, supply: u32) -> Verdict
             task,
             margin: 0,
         },
-        Bounds::Kept { cycle, jobs } => decide(list, cycle, jobs),
+        Bounds::Kept { cycle, jobs } => decide(list, cycle, jobs, table),
     }
 }
 
-// The entries of a list on which nothing is late.
-fn write_entries(list: TaskList, cycle: u32, table: &mut [u8])
-    requires { ⌜ Bounded list × (cycle ≡ cycleOf list) × (cycle ≤ length (now table)) × (lateness (planOf list) cycle .task ≡ 0) ⌝ }
-    ensures { λ r. ⌜ now (table .exit) ≡ overwrite (slices (planOf list)) cycle (now (table .entry)) ⌝ }
+// The verdict on a list.
+pub fn judge(list: TaskList, supply: u32) -> Verdict
+    ensures { λ r. ⌜ r ≡ verdictOf list supply ⌝ }
 {
-    let mut order = [0usize; 16];
-    let mut periods = [0u32; 16];
-    let mut dues = [0u32; 16];
-    let mut runtimes = [0u32; 16];
-    order::by_rank(list, &mut order, &mut periods, &mut dues, &mut runtimes);
-    walk::write(list, &order, &periods, &dues, &runtimes, cycle, table);
+    let mut none = [0u8; 0];
+    settle(list, supply, &mut none)
 }
 
 // The verdict, and where the list is accepted its table in the lent bytes. A table that is too short is refused last.
 pub fn build(list: TaskList, supply: u32, table: &mut [u8]) -> Verdict
     ensures { λ r. ⌜ Built list supply (now (table .entry)) (now (table .exit)) r ⌝ }
 {
-    let verdict = judge(list, supply);
+    let verdict = settle(list, supply, table);
     let Verdict::Accepted { cycle, .. } = verdict else {
         return verdict;
     };
@@ -110,6 +206,5 @@ pub fn build(list: TaskList, supply: u32, table: &mut [u8]) -> Verdict
             margin: 0,
         };
     }
-    write_entries(list, cycle, table);
     verdict
 }

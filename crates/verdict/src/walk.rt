@@ -2,18 +2,14 @@
 // but that the open jobs run in the order of their ranks, one after the other. Place k of each array is the k-th task's by rank.
 ghost use mathlib.Core.Path.{_≡_};
 ghost use Prim.Native.Nat.{ℕ, _-_, _≤_, _<_, min};
-ghost use lib.ListN.{length, replicate};
-ghost use Rattle.basis.specs.Bytes.{at, overwrite};
-ghost use Rattle.plan.specs.Plan.{table as slices};
+ghost use lib.ListN.{length, set, replicate};
+ghost use Rattle.basis.specs.Bytes.{at};
 ghost use Rattle.tasks.specs.List.{planOf};
-ghost use Rattle.tasks.specs.Bounds.{cycleOf};
-ghost use Rattle.verdict.specs.Lateness.{lateness};
 ghost use lib.Dec.{ltb};
 ghost use Rattle.basis.specs.Choose.{choose};
-ghost use Rattle.verdict.specs.Shapes.{Bounded, Fits, HandedOne, HandedOut, Filled, WrittenOut, TurnedOne, TurnedAll, marginAt, TightestAt};
-ghost use Rattle.verdict.specs.Walk.{Shows, EndsAre};
+ghost use Rattle.verdict.specs.Shapes.{Fits, HandedOne, HandedOut, Filled, TurnedOne, TurnedAll, marginAt, TightestAt};
+ghost use Rattle.verdict.specs.Walk.{Shown, Walked};
 use crate::Late;
-use tasks::TaskList;
 
 fn lesser(a: u32, b: u32) -> u32
     ensures { λ r. ⌜ r ≡ min a b ⌝ }
@@ -21,19 +17,48 @@ fn lesser(a: u32, b: u32) -> u32
     if a < b { a } else { b }
 }
 
+// Written only where it differs: a turn is mostly short, and as plain stores the loop over it would become a call.
+fn put(entries: &mut [u8], s: usize, entry: u8)
+    requires { ⌜ s < length (now entries) ⌝ }
+    ensures { λ r. ⌜ now (entries .exit) ≡ set (now (entries .entry)) s entry ⌝ }
+{
+    if entries[s] != entry {
+        entries[s] = entry;
+    }
+}
+
+// Writes one entry for the slices of a turn, if there are entries up to its end.
+fn fill(entries: &mut [u8], from: u32, to: u32, entry: usize)
+    requires { ⌜ (from ≤ to) × (entry ≤ 16) ⌝ }
+    ensures { λ r. ⌜ (to ≤ length (now (entries .entry)) → Filled (now (entries .entry)) from to entry (now (entries .exit))) ⌝ }
+{
+    let end = to as usize;
+    if entries.len() < end {
+        return;
+    }
+    let byte = entry as u8;
+    let mut s = from as usize;
+    while s < end {
+        put(entries, s, byte);
+        s += 1;
+    }
+}
+
 // The turn of the task at place k begins at a slice and ends where it has what it lacks, at the next event at the latest: the
 // answer. In its first job that is the end of the job so far.
 fn hand_one(
+    order: &[usize; 16],
     dues: &[u32; 16],
     lacks: &mut [u32; 16],
     ends: &mut [u32; 16],
+    entries: &mut [u8],
     k: usize,
     t: u32,
     from: u32,
     next: u32,
 ) -> u32
-    requires { ⌜ (k < 16) × (from < next) ⌝ }
-    ensures { λ r. ⌜ HandedOne (now (dues .entry)) (now (lacks .entry)) (now (ends .entry)) k t from next (now (lacks .exit)) (now (ends .exit)) r ⌝ }
+    requires { ⌜ (k < 16) × (from < next) × (at (now order) k < 16) ⌝ }
+    ensures { λ r. ⌜ HandedOne (now (order .entry)) (now (dues .entry)) (now (lacks .entry)) (now (ends .entry)) (now (entries .entry)) k t from next (now (lacks .exit)) (now (ends .exit)) (now (entries .exit)) r ⌝ }
 {
     let lack = lacks[k];
     if lack == 0 {
@@ -42,6 +67,7 @@ fn hand_one(
     let take = lesser(lack, next - from);
     let to = from + take;
     lacks[k] = lack - take;
+    fill(entries, from, to, order[k] + 1);
     if dues[k] <= t {
         return to;
     }
@@ -51,62 +77,28 @@ fn hand_one(
 
 // Hands out the slices from slice t to the next event: each task in turn takes what it lacks.
 fn hand_out(
+    order: &[usize; 16],
     dues: &[u32; 16],
     lacks: &mut [u32; 16],
     ends: &mut [u32; 16],
+    entries: &mut [u8],
     count: usize,
     t: u32,
     next: u32,
 )
-    requires { ⌜ (count ≤ 16) × (t < next) ⌝ }
-    ensures { λ r. ⌜ HandedOut (now (dues .entry)) (now (lacks .entry)) (now (ends .entry)) count t (next - t) (now (lacks .exit)) (now (ends .exit)) ⌝ }
+    requires { ⌜ (count ≤ 16) × (t < next) × ((k : ℕ) → k < count → at (now order) k < 16) ⌝ }
+    ensures { λ r. ⌜ HandedOut (now (order .entry)) (now (dues .entry)) (now (lacks .entry)) (now (ends .entry)) (now (entries .entry)) count t next (now (lacks .exit)) (now (ends .exit)) (now (entries .exit)) ⌝ }
 {
     let mut from = t;
     let mut k = 0;
     while k < count {
-        let to = hand_one(dues, lacks, ends, k, t, from, next);
+        let to = hand_one(order, dues, lacks, ends, entries, k, t, from, next);
         if to == next {
             return;
         }
         from = to;
         k += 1;
     }
-}
-
-// Writes one entry for the slices of a turn.
-fn fill(table: &mut [u8], from: u32, to: u32, entry: usize)
-    requires { ⌜ (from ≤ to) × (to ≤ length (now table)) × (entry ≤ 16) ⌝ }
-    ensures { λ r. ⌜ Filled (now (table .entry)) from to entry (now (table .exit)) ⌝ }
-{
-    let byte = entry as u8;
-    let mut t = from;
-    while t < to {
-        table[t as usize] = byte;
-        t += 1;
-    }
-}
-
-// Writes the entries of the slices from slice t to the next event.
-fn write_out(
-    order: &[usize; 16],
-    lacks: &[u32; 16],
-    table: &mut [u8],
-    count: usize,
-    t: u32,
-    next: u32,
-)
-    requires { ⌜ (count ≤ 16) × (t < next) × (next ≤ length (now table)) × ((k : ℕ) → k < count → at (now order) k < 16) ⌝ }
-    ensures { λ r. ⌜ WrittenOut (now (order .entry)) (now (lacks .entry)) (now (table .entry)) count t (next - t) (now (table .exit)) ⌝ }
-{
-    let mut from = t;
-    let mut k = 0;
-    while k < count {
-        let to = from + lesser(lacks[k], next - from);
-        fill(table, from, to, order[k] + 1);
-        from = to;
-        k += 1;
-    }
-    fill(table, from, next, 0);
 }
 
 // What slice t brings to the task at place k. The answer is its next event, or 0 if it misses its deadline there.
@@ -184,26 +176,28 @@ fn turn(
     }
 }
 
-// The slice rule over a cycle, up to the first missed deadline, with the ends of the first jobs.
+// The slice rule over a cycle, up to the first missed deadline, with the ends of the first jobs, and the entries if there are
+// enough of them. The first event is the first deadline by rank.
 pub(crate) fn simulate(
-    list: TaskList,
     order: &[usize; 16],
     periods: &[u32; 16],
     dues: &[u32; 16],
     runtimes: &[u32; 16],
+    count: usize,
     cycle: u32,
     ends: &mut [u32; 16],
+    entries: &mut [u8],
 ) -> Late
-    requires { ⌜ Bounded list × (cycle ≡ cycleOf list) × Shows (planOf list) (now order) (now periods) (now dues) (now runtimes) × (now ends ≡ replicate 16 0) ⌝ }
-    ensures { λ r. ⌜ (r ≡ lateness (planOf list) cycle) × (r .task ≡ 0 → EndsAre (planOf list) cycle (now (order .entry)) (now (ends .exit))) ⌝ }
+    requires { ⌜ Shown count cycle (now order) (now periods) (now dues) (now runtimes) × (now ends ≡ replicate 16 0) × ((x : ℕ) → at (now entries) x ≡ 0) ⌝ }
+    ensures { λ r. ⌜ ((S : Shown count cycle (now (order .entry)) (now (periods .entry)) (now (dues .entry)) (now (runtimes .entry))) → Walked (planOf (S .list)) cycle (now (order .entry)) (now (entries .entry)) (now (ends .exit)) (now (entries .exit)) r) ⌝ }
 {
     let mut lacks = *runtimes;
     let mut events = *dues;
     let mut releases = [0u32; 16];
     let mut t = 0;
-    let mut next = 1;
+    let mut next = dues[0];
     while t < cycle {
-        hand_out(dues, &mut lacks, ends, list.count, t, next);
+        hand_out(order, dues, &mut lacks, ends, entries, count, t, next);
         let turned = turn(
             order,
             periods,
@@ -212,7 +206,7 @@ pub(crate) fn simulate(
             &mut releases,
             &mut events,
             &mut lacks,
-            list.count,
+            count,
             next,
         );
         let late = turned.late;
@@ -223,44 +217,6 @@ pub(crate) fn simulate(
         next = turned.next;
     }
     Late { task: 0, short: 0 }
-}
-
-// The same walk once more, of a list on which nothing is late, for its entries.
-pub(crate) fn write(
-    list: TaskList,
-    order: &[usize; 16],
-    periods: &[u32; 16],
-    dues: &[u32; 16],
-    runtimes: &[u32; 16],
-    cycle: u32,
-    table: &mut [u8],
-)
-    requires { ⌜ Bounded list × (cycle ≡ cycleOf list) × Shows (planOf list) (now order) (now periods) (now dues) (now runtimes) × (cycle ≤ length (now table)) × (lateness (planOf list) cycle .task ≡ 0) ⌝ }
-    ensures { λ r. ⌜ now (table .exit) ≡ overwrite (slices (planOf list)) cycle (now (table .entry)) ⌝ }
-{
-    let mut lacks = *runtimes;
-    let mut events = *dues;
-    let mut releases = [0u32; 16];
-    let mut ends = [0u32; 16];
-    let mut t = 0;
-    let mut next = 1;
-    while t < cycle {
-        write_out(order, &lacks, table, list.count, t, next);
-        hand_out(dues, &mut lacks, &mut ends, list.count, t, next);
-        let turned = turn(
-            order,
-            periods,
-            dues,
-            runtimes,
-            &mut releases,
-            &mut events,
-            &mut lacks,
-            list.count,
-            next,
-        );
-        t = next;
-        next = turned.next;
-    }
 }
 
 // The place of the tighter of two tasks, of which `best` stands earlier: the smaller margin, then the first-ranking one.

@@ -1,7 +1,6 @@
 -- `with_tasks` meets its contract: place by place.
 use Prim.Native.Nat.{_≤_, _-_}
 use Rattle.checksum.specs.Checksum.{overTasks}
-use Rattle.run.specs.State.{noTiming}
 use borrow.Author.Needs.{needs}
 use mathlib.Core.Path.{_≡_, refl}
 use native.Mathlib.Numerals.{add-one}
@@ -10,23 +9,29 @@ use Rattle.checksum.proofs.with_tasks.Statement.{statement}
 use Rattle.checksum.proofs.with_tasks.Tie as tie
 
 abbrev Inv-loop : tie.InvT-loop
-Inv-loop h tasks sum₀ i₀ sum i = (i ≤ 16) × (sum ≡ overTasks h tasks i)
+Inv-loop h periods runtimes sum₀ i₀ sum i = (i ≤ 16) × (sum ≡ overTasks h periods runtimes i)
 
 abbrev μ-loop : tie.MeasureT-loop
-μ-loop h tasks sum₀ i₀ sum i = 16 - i
+μ-loop h periods runtimes sum₀ i₀ sum i = 16 - i
 
 loop-holds : tie.Need-loop-holds Inv-loop μ-loop
 unfolding overTasks
 loop-holds c = (omega arith, refl)
 
-mul-task : tie.Need-mul-task Inv-loop μ-loop
-mul-task c = search needs
+mul-with-word : tie.Need-mul-with-word Inv-loop μ-loop
+mul-with-word c = search needs
 
-array-copy-out-task : tie.Need-array-copy-out-task Inv-loop μ-loop
-array-copy-out-task c = search needs
+element-copy-out-with-word : tie.Need-element-copy-out-with-word Inv-loop μ-loop
+element-copy-out-with-word c = search needs
 
 with-word-requires : tie.Need-with-word-requires Inv-loop μ-loop
 with-word-requires c κs = search needs
+
+mul-with-word-2 : tie.Need-mul-with-word-2 Inv-loop μ-loop
+mul-with-word-2 c = search needs
+
+element-copy-out-with-word-2 : tie.Need-element-copy-out-with-word-2 Inv-loop μ-loop
+element-copy-out-with-word-2 c = search needs
 
 with-word-requires-2 : tie.Need-with-word-requires-2 Inv-loop μ-loop
 with-word-requires-2 c κs = search needs
@@ -38,7 +43,7 @@ loop-less : tie.Need-loop-less Inv-loop μ-loop
 loop-less c = search needs
 
 loop-again : tie.Need-loop-again Inv-loop μ-loop
-unfolding overTasks noTiming
+unfolding overTasks
 loop-again c = (omega arith, rw add-one (cc))
 
 returns : tie.Need-returns Inv-loop μ-loop
@@ -51,9 +56,11 @@ with-tasks-spec =
     Inv-loop
     μ-loop
     loop-holds
-    mul-task
-    array-copy-out-task
+    mul-with-word
+    element-copy-out-with-word
     with-word-requires
+    mul-with-word-2
+    element-copy-out-with-word-2
     with-word-requires-2
     add-i
     loop-less

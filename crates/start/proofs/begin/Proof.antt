@@ -1,19 +1,17 @@
 -- `start::begin` meets its contract.
-use Rattle.run.specs.State.{fresh}
 use Rattle.start.specs.Start.{startState}
-use borrow.Author.Needs.{needs}
 use Rattle.start.proofs.begin.Statement.{statement}
 use Rattle.start.proofs.begin.Tie as tie
 
-timings-of-requires : tie.Need-timings-of-requires
-timings-of-requires c κs = search needs
+read-requires : tie.Need-read-requires
+read-requires c κs = c .before .before .pre
 
 mode-of-requires : tie.Need-mode-of-requires
-mode-of-requires c κs = search needs
+mode-of-requires c κs = tt
 
 returns : tie.Need-returns
-unfolding startState fresh
-returns c = cc
+unfolding startState
+returns c = rw (c .before .read .ensures .0, c .before .read .ensures .1, c .mode-of .ensures)
 
 pub begin-spec : {M : Type 1} → statement M
-begin-spec = tie.close (tie.spec timings-of-requires mode-of-requires returns)
+begin-spec = tie.close (tie.spec read-requires mode-of-requires returns)

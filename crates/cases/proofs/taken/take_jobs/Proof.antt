@@ -5,10 +5,10 @@ use Rattle.cases.proofs.taken.take_jobs.Statement.{statement}
 use Rattle.cases.proofs.taken.take_jobs.Tie as tie
 
 abbrev Inv-loop : tie.InvT-loop
-Inv-loop jobs₀ formed₀ i₀ jobs formed i = Unit {0}
+Inv-loop used₀ ended₀ formed₀ i₀ used ended formed i = Unit {0}
 
 abbrev μ-loop : tie.MeasureT-loop
-μ-loop jobs₀ formed₀ i₀ jobs formed i = 16 - i
+μ-loop used₀ ended₀ formed₀ i₀ used ended formed i = 16 - i
 
 loop-holds : tie.Need-loop-holds Inv-loop μ-loop
 loop-holds c = search needs
@@ -16,14 +16,17 @@ loop-holds c = search needs
 word-requires : tie.Need-word-requires Inv-loop μ-loop
 word-requires c κs = search needs
 
+mul-used : tie.Need-mul-used Inv-loop μ-loop
+mul-used c = search needs
+
+element-write-used : tie.Need-element-write-used Inv-loop μ-loop
+element-write-used c = search needs
+
 byte-requires : tie.Need-byte-requires Inv-loop μ-loop
 byte-requires c κs = search needs
 
-mul-jobs : tie.Need-mul-jobs Inv-loop μ-loop
-mul-jobs c = search needs
-
-array-set-from-jobs : tie.Need-array-set-from-jobs Inv-loop μ-loop
-array-set-from-jobs c = search needs
+element-write-ended : tie.Need-element-write-ended Inv-loop μ-loop
+element-write-ended c = search needs
 
 add-i : tie.Need-add-i Inv-loop μ-loop
 add-i c = search needs
@@ -45,9 +48,10 @@ take-jobs-spec =
     μ-loop
     loop-holds
     word-requires
+    mul-used
+    element-write-used
     byte-requires
-    mul-jobs
-    array-set-from-jobs
+    element-write-ended
     add-i
     loop-less
     loop-again

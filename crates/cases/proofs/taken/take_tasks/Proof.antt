@@ -5,22 +5,31 @@ use Rattle.cases.proofs.taken.take_tasks.Statement.{statement}
 use Rattle.cases.proofs.taken.take_tasks.Tie as tie
 
 abbrev Inv-loop : tie.InvT-loop
-Inv-loop tasks₀ i₀ tasks i = Unit {0}
+Inv-loop periods₀ runtimes₀ i₀ periods runtimes i = Unit {0}
 
 abbrev μ-loop : tie.MeasureT-loop
-μ-loop tasks₀ i₀ tasks i = 16 - i
+μ-loop periods₀ runtimes₀ i₀ periods runtimes i = 16 - i
 
 loop-holds : tie.Need-loop-holds Inv-loop μ-loop
 loop-holds c = search needs
 
-take-timing-requires : tie.Need-take-timing-requires Inv-loop μ-loop
-take-timing-requires c κs = search needs
+word-requires : tie.Need-word-requires Inv-loop μ-loop
+word-requires c κs = search needs
 
-mul-tasks : tie.Need-mul-tasks Inv-loop μ-loop
-mul-tasks c = search needs
+mul-periods : tie.Need-mul-periods Inv-loop μ-loop
+mul-periods c = search needs
 
-array-set-from-tasks : tie.Need-array-set-from-tasks Inv-loop μ-loop
-array-set-from-tasks c = search needs
+element-write-periods : tie.Need-element-write-periods Inv-loop μ-loop
+element-write-periods c = search needs
+
+word-requires-2 : tie.Need-word-requires-2 Inv-loop μ-loop
+word-requires-2 c κs = search needs
+
+mul-runtimes : tie.Need-mul-runtimes Inv-loop μ-loop
+mul-runtimes c = search needs
+
+element-write-runtimes : tie.Need-element-write-runtimes Inv-loop μ-loop
+element-write-runtimes c = search needs
 
 add-i : tie.Need-add-i Inv-loop μ-loop
 add-i c = search needs
@@ -41,9 +50,12 @@ take-tasks-spec =
     Inv-loop
     μ-loop
     loop-holds
-    take-timing-requires
-    mul-tasks
-    array-set-from-tasks
+    word-requires
+    mul-periods
+    element-write-periods
+    word-requires-2
+    mul-runtimes
+    element-write-runtimes
     add-i
     loop-less
     loop-again

@@ -1,80 +1,33 @@
 -- `run::close::mark_late` meets its contract.
-use Prim.Native.Nat.{_≤_, _-_}
-use mathlib.Core.Path.{_≡_, refl, ap, _∙_}
-use native.Mathlib.Omega.{arith}
-use denote.Ref.{now}
-use lib.ListN.{length}
-use Rattle.run.specs.Step.{withLate}
-use Rattle.run.specs.Places.{place-within}
-use Rattle.run.specs.LogAfter.{late-length}
-use Rattle.run.proofs.Turns.{one-more-late}
+use borrow.Author.Needs.{needs}
+use borrow.Author.Tests.{not-true, not-false}
+use Rattle.basis.specs.Choose.{choose}
+use borrow.Author.Needs.{needs}
 use Rattle.run.proofs.close.mark_late.Statement.{statement}
 use Rattle.run.proofs.close.mark_late.Tie as tie
 
-abbrev Inv-loop : tie.InvT-loop
-Inv-loop state ran report log₀ count i₀ log i = (i ≤ count) × (log ≡ withLate state ran report log₀ i)
+returns : tie.Need-returns
+unfolding choose
+returns c = rw (not-true (c .before .before .args .last) (c .if1 .taken))
 
-abbrev μ-loop : tie.MeasureT-loop
-μ-loop state ran report log₀ count i₀ log i = count - i
+returns-2 : tie.Need-returns-2
+unfolding choose
+returns-2 c = rw (not-false (c .before .before .before .args .last) (c .before .if1 .left), c .if2 .taken)
 
-loop-holds : tie.Need-loop-holds Inv-loop μ-loop
-unfolding withLate
-loop-holds c = (omega arith, refl)
+returns-3 : tie.Need-returns-3
+unfolding choose
+returns-3 c = rw (not-false (c .before .before .before .before .args .last) (c .before .before .if1 .left), c .before .if2 .left, c .if3 .taken)
 
-after-slice-requires : tie.Need-after-slice-requires Inv-loop μ-loop
-after-slice-requires c κs = (c .before .before .before .pre .is-sound, c .loop-test .taken)
+write-requires : tie.Need-write-requires
+write-requires c κs = search needs
 
-place-requires : tie.Need-place-requires Inv-loop μ-loop
-place-requires c κs = (c .before .before .before .before .before .pre .is-sound, c .before .before .loop-test .taken)
+same-length : tie.Need-same-length
+same-length c = search needs
 
-last-slice-requires : tie.Need-last-slice-requires Inv-loop μ-loop
-last-slice-requires c κs = (c .before .before .before .before .before .before .pre .is-sound, c .before .before .before .loop-test .taken)
-
-write-late-requires : tie.Need-write-late-requires Inv-loop μ-loop
-write-late-requires c κs =
-    let a = c .before .before .before .before .before .before .before in
-    let l = c .before .before .before .before .before .loop in
-    omega (
-      arith,
-      c .before .place .ensures,
-      a .pre .log-from,
-      place-within _ (a .pre .is-sound) (a .pre .not-over) (l .i) (c .before .before .before .before .loop-test .taken),
-      ap length (l .inv .1),
-      late-length (a .args .state) (a .args .ran) (a .args .report) (now (a .args .log)) (l .i),
-    )
-
-add-i : tie.Need-add-i Inv-loop μ-loop
-add-i c = omega arith
-
-loop-less : tie.Need-loop-less Inv-loop μ-loop
-loop-less c = omega arith
-
-loop-again : tie.Need-loop-again Inv-loop μ-loop
-loop-again c =
-    let b = c .before .before .before .before in
-    (omega arith, one-more-late _ _ _ _ _ _ _ _ _ _ (b .before .before .before .before .loop .inv .1) (b .before .before .after-slice .ensures) (b .place .ensures) (c .before .before .before .last-slice .ensures) (c .before .before .write-late .ensures))
-
-same-length : tie.Need-same-length Inv-loop μ-loop
-same-length c = ap length (c .before .loop .inv .1) ∙ late-length _ _ _ _ (c .before .loop .i)
-
-returns : tie.Need-returns Inv-loop μ-loop
-returns c =
-    let end : c .before .loop .i ≡ c .before .before .before .args .state .count = omega arith in
-    rw end at (c .before .loop .inv .1)
+returns-4 : tie.Need-returns-4
+unfolding choose
+returns-4 c = rw (not-false (c .before .before .before .before .before .before .before .before .args .last) (c .before .before .before .before .before .before .if1 .left), c .before .before .before .before .before .if2 .left, c .before .before .before .before .if3 .left) (c .before .before .write .ensures)
 
 pub mark-late-spec : {M : Type 1} → statement M
 mark-late-spec =
-    tie.close
-    (tie.spec
-    Inv-loop
-    μ-loop
-    loop-holds
-    after-slice-requires
-    place-requires
-    last-slice-requires
-    write-late-requires
-    add-i
-    loop-less
-    loop-again
-    same-length
-    returns)
+    tie.close (tie.spec returns returns-2 returns-3 write-requires same-length returns-4)

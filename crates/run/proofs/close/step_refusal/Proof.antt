@@ -1,43 +1,42 @@
 -- `run::close::step_refusal` meets its contract.
+use mathlib.Core.Path.{sym, _∙_}
 use native.Mathlib.Omega.{arith}
-use mathlib.Core.Path.{ap₂, _∙_}
+use borrow.Author.Tests.{lt-ltb, le-ltb, eq-eqb, ne-eqb}
+use Rattle.basis.specs.Choose.{choose}
 use Rattle.run.specs.Who.{orNext}
+use Rattle.run.specs.Step.{nextClock, of14}
 use Rattle.run.specs.Shapes.{twelveOn}
-use Rattle.run.proofs.Answers.{twelve}
 use Rattle.run.proofs.close.step_refusal.Statement.{statement}
 use Rattle.run.proofs.close.step_refusal.Tie as tie
 
-offset-requires : tie.Need-offset-requires
-offset-requires c κs = (c .pre, omega arith)
-
-refusal-12-requires : tie.Need-refusal-12-requires
-refusal-12-requires c κs = tt
-
-refusal-13-requires : tie.Need-refusal-13-requires
-refusal-13-requires c κs = tt
-
-refusal-14-requires : tie.Need-refusal-14-requires
-refusal-14-requires c κs = tt
-
-or-next-requires : tie.Need-or-next-requires
-or-next-requires c κs = tt
-
-or-next-requires-2 : tie.Need-or-next-requires-2
-or-next-requires-2 c κs = tt
-
 returns : tie.Need-returns
-unfolding twelveOn
-returns c =
-    c .or-next2 .ensures ∙ ap₂ orNext (twelve _ _ _ _ (c .before .before .before .before .before .offset .ensures) (c .before .before .before .before .refusal-12 .ensures)) (c .before .or-next .ensures ∙ ap₂ orNext (c .before .before .before .refusal-13 .ensures) (c .before .before .refusal-14 .ensures))
+unfolding twelveOn orNext choose
+returns c = rw (lt-ltb _ _ (c .if1 .taken))
+
+wrapping-add-u32-requires : tie.Need-wrapping-add-u32-requires
+wrapping-add-u32-requires c κs = tt
+
+returns-2 : tie.Need-returns-2
+unfolding twelveOn orNext choose nextClock
+returns-2 c = rw (le-ltb _ _ (c .before .before .if1 .left), ne-eqb _ _ (λ e. c .if2 .taken (e ∙ sym (c .before .wrapping-add-u32 .ensures))))
+
+returns-3 : tie.Need-returns-3
+unfolding twelveOn orNext choose nextClock of14
+returns-3 c = rw (le-ltb _ _ (c .before .before .before .if1 .left), eq-eqb _ _ (c .before .if2 .left ∙ c .before .before .wrapping-add-u32 .ensures), lt-ltb _ _ (c .if3 .taken))
+
+returns-4 : tie.Need-returns-4
+unfolding twelveOn orNext choose nextClock of14
+returns-4 c = rw (le-ltb _ _ (c .before .before .before .before .if1 .left), eq-eqb _ _ (c .before .before .if2 .left ∙ c .before .before .before .wrapping-add-u32 .ensures), c .if4 .taken)
+
+returns-5 : tie.Need-returns-5
+unfolding twelveOn orNext choose nextClock of14
+returns-5 c = rw (le-ltb _ _ (c .before .before .before .before .before .if1 .left), eq-eqb _ _ (c .before .before .before .if2 .left ∙ c .before .before .before .before .wrapping-add-u32 .ensures), le-ltb _ _ (c .before .before .if3 .left), eq-eqb (c .before .before .before .before .before .before .args .report) 1 (omega (arith, c .before .if4 .left)), eq-eqb _ _ (c .if5 .taken))
+
+returns-6 : tie.Need-returns-6
+unfolding twelveOn orNext choose nextClock of14
+returns-6 c = rw (le-ltb _ _ (c .before .before .before .before .before .if1 .left), eq-eqb _ _ (c .before .before .before .if2 .left ∙ c .before .before .before .before .wrapping-add-u32 .ensures), le-ltb _ _ (c .before .before .if3 .left), eq-eqb (c .before .before .before .before .before .before .args .report) 1 (omega (arith, c .before .if4 .left)), ne-eqb _ _ (c .if5 .left))
 
 pub step-refusal-spec : {M : Type 1} → statement M
 step-refusal-spec =
     tie.close
-    (tie.spec
-    offset-requires
-    refusal-12-requires
-    refusal-13-requires
-    refusal-14-requires
-    or-next-requires
-    or-next-requires-2
-    returns)
+    (tie.spec returns wrapping-add-u32-requires returns-2 returns-3 returns-4 returns-5 returns-6)

@@ -15,10 +15,10 @@ unfolding soundTask
 returns c = rw (sym (c .before .is-within .ensures) ∙ not-true _ (c .if1 .taken))
 
 -- the tests that were passed before each of the next
-period-fits : (c : tie.Else1) → within 1 4096 (c .before .before .args .task .period) ≡ true
+period-fits : (c : tie.Else1) → within 1 4096 (c .before .before .args .period) ≡ true
 period-fits c = sym (c .before .is-within .ensures) ∙ not-false _ (c .if1 .left)
 
-runtime-fits : (c : tie.Else3) → within 1 (c .before .before .before .before .before .args .task .period) (c .before .before .before .before .before .args .task .runtime) ≡ true
+runtime-fits : (c : tie.Else3) → within 1 (c .before .before .before .before .before .args .period) (c .before .before .before .before .before .args .runtime) ≡ true
 runtime-fits c = sym (c .before .is-within2 .ensures) ∙ not-false _ (c .if3 .left)
 
 rem-if2 : tie.Need-rem-if2

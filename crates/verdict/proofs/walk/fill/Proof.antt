@@ -1,4 +1,4 @@
--- `verdict::walk::fill` meets its contract: the slices before t are written.
+-- `verdict::walk::fill` meets its contract: the slices before s are written.
 use Prim.Native.Nat.{_≤_, _-_}
 use mathlib.Core.Path.{_≡_}
 use native.Mathlib.Omega.{arith}
@@ -8,10 +8,13 @@ use Rattle.verdict.proofs.walk.fill.Statement.{statement}
 use Rattle.verdict.proofs.walk.fill.Tie as tie
 
 abbrev Inv-loop : tie.InvT-loop
-Inv-loop table₀ from to entry byte t₀ table t = (from ≤ t) × (t ≤ to) × Filled table₀ from t entry table
+Inv-loop entries₀ from to entry end byte s₀ entries s = (from ≤ s) × (s ≤ to) × Filled entries₀ from s entry entries
 
 abbrev μ-loop : tie.MeasureT-loop
-μ-loop table₀ from to entry byte t₀ table t = to - t
+μ-loop entries₀ from to entry end byte s₀ entries s = to - s
+
+returns : tie.Need-returns Inv-loop μ-loop
+returns c = λ room. absurd (omega arith)
 
 cast-byte : tie.Need-cast-byte Inv-loop μ-loop
 cast-byte c = omega arith
@@ -19,26 +22,23 @@ cast-byte c = omega arith
 loop-holds : tie.Need-loop-holds Inv-loop μ-loop
 loop-holds c = (omega arith, omega arith, filled-none _ _ _)
 
-cast-table : tie.Need-cast-table Inv-loop μ-loop
-cast-table c = omega arith
+put-requires : tie.Need-put-requires Inv-loop μ-loop
+put-requires c κs = omega (arith, c .before .before .loop .inv .2 .long)
 
-slice-write-table : tie.Need-slice-write-table Inv-loop μ-loop
-slice-write-table c = omega arith
-
-add-t : tie.Need-add-t Inv-loop μ-loop
-add-t c = omega arith
+add-s : tie.Need-add-s Inv-loop μ-loop
+add-s c = omega arith
 
 loop-less : tie.Need-loop-less Inv-loop μ-loop
 loop-less c = omega arith
 
 loop-again : tie.Need-loop-again Inv-loop μ-loop
-loop-again c = (omega arith, omega arith, filled-more _ _ _ _ _ (c .before .loop .inv .2) (c .before .loop .inv .0) (omega arith))
+loop-again c = (omega arith, omega arith, rw (c .before .before .put .ensures) (filled-more _ _ _ _ _ (c .before .before .before .before .before .loop .inv .2) (c .before .before .before .before .before .loop .inv .0) (omega arith)))
 
 same-length : tie.Need-same-length Inv-loop μ-loop
 same-length c = c .before .loop .inv .2 .long
 
-returns : tie.Need-returns Inv-loop μ-loop
-returns c = let end : c .before .loop .t ≡ c .before .before .args .to = omega arith in rw end at (c .before .loop .inv .2)
+returns-2 : tie.Need-returns-2 Inv-loop μ-loop
+returns-2 c = λ _. let end : c .before .loop .s ≡ c .before .before .before .before .args .to = omega arith in rw end at (c .before .loop .inv .2)
 
 pub fill-spec : {M : Type 1} → statement M
 fill-spec =
@@ -46,12 +46,12 @@ fill-spec =
     (tie.spec
     Inv-loop
     μ-loop
+    returns
     cast-byte
     loop-holds
-    cast-table
-    slice-write-table
-    add-t
+    put-requires
+    add-s
     loop-less
     loop-again
     same-length
-    returns)
+    returns-2)

@@ -1,42 +1,49 @@
 -- `verdict::walk::simulate` meets its contract: before slice t the arrays are the run of the slice rule, and nothing was late.
+use mathlib.Core.Path.{_≡_}
 use Prim.Native.Nat.{_-_}
 use native.Mathlib.Omega.{arith}
+use lib.ListN.{length}
 use Rattle.tasks.specs.List.{planOf}
-use Rattle.verdict.proofs.Cycle.{At, at-start, order-small, numbers-fit, stops, goes-on, ends-well}
+use Rattle.verdict.specs.Walk.{Shown}
+use Rattle.verdict.proofs.Cycle.{At, few, order-small, at-start, numbers-fit, stops, goes-on, ends-well}
 use Rattle.verdict.proofs.walk.simulate.Statement.{statement}
 use Rattle.verdict.proofs.walk.simulate.Tie as tie
 
 abbrev Inv-loop : tie.InvT-loop
-Inv-loop list order periods dues runtimes cycle ends₀ lacks₀ events₀ releases₀ t₀ next₀ ends lacks events releases t next =
-    At (planOf list) order cycle t next lacks releases events ends
+Inv-loop order periods dues runtimes count cycle ends₀ entries₀ lacks₀ events₀ releases₀ t₀ next₀ ends entries lacks events releases t next = (length entries ≡ length entries₀) × ((S : Shown count cycle order periods dues runtimes) → At (planOf (S .list)) order entries₀ cycle t next lacks releases events ends entries)
 
 abbrev μ-loop : tie.MeasureT-loop
-μ-loop list order periods dues runtimes cycle ends₀ lacks₀ events₀ releases₀ t₀ next₀ ends lacks events releases t next =
-    cycle - t
+μ-loop order periods dues runtimes count cycle ends₀ entries₀ lacks₀ events₀ releases₀ t₀ next₀ ends entries lacks events releases t next = cycle - t
+
+element-copy-out-next : tie.Need-element-copy-out-next Inv-loop μ-loop
+element-copy-out-next c = omega arith
 
 loop-holds : tie.Need-loop-holds Inv-loop μ-loop
-loop-holds c = at-start _ (c .before .before .pre .0) _ (c .before .before .pre .1) _ _ _ _ (c .before .before .pre .2) _ (c .before .before .pre .3)
+loop-holds c = (omega arith, λ S. at-start _ _ _ _ _ _ S _ _ (c .before .before .before .before .pre .1))
 
 hand-out-requires : tie.Need-hand-out-requires Inv-loop μ-loop
-hand-out-requires c κs = (c .before .before .before .before .before .before .pre .0 .keeps .few, c .before .before .before .loop .inv .ahead)
+hand-out-requires c κs = (few _ _ _ _ _ _ (c .before .before .before .before .before .before .before .before .before .pre .0), c .before .before .before .before .loop .inv .1 (c .before .before .before .before .before .before .before .before .before .pre .0) .ahead, order-small _ _ _ _ _ _ (c .before .before .before .before .before .before .before .before .before .pre .0))
 
 turn-requires : tie.Need-turn-requires Inv-loop μ-loop
-unfolding planOf
-turn-requires c κs = (c .before .before .before .before .before .before .before .before .before .before .pre .0 .keeps .few, omega (arith, c .before .before .before .before .before .before .before .loop .inv .ahead), order-small _ (c .before .before .before .before .before .before .before .before .before .before .pre .0) _ (c .before .before .before .before .before .before .before .before .before .before .pre .1) _ _ _ _ (c .before .before .before .before .before .before .before .before .before .before .pre .2) _ _ _ _ _ _ (c .before .before .before .before .before .before .before .loop .inv) (c .before .before .before .before .before .before .loop-test .taken), numbers-fit _ (c .before .before .before .before .before .before .before .before .before .before .pre .0) _ (c .before .before .before .before .before .before .before .before .before .before .pre .1) _ _ _ _ (c .before .before .before .before .before .before .before .before .before .before .pre .2) _ _ _ _ _ _ (c .before .before .before .before .before .before .before .loop .inv) (c .before .before .before .before .before .before .loop-test .taken))
+turn-requires c κs = (few _ _ _ _ _ _ (c .before .before .before .before .before .before .before .before .before .before .before .before .before .before .before .pre .0), omega (arith, c .before .before .before .before .before .before .before .before .before .before .loop .inv .1 (c .before .before .before .before .before .before .before .before .before .before .before .before .before .before .before .pre .0) .ahead), order-small _ _ _ _ _ _ (c .before .before .before .before .before .before .before .before .before .before .before .before .before .before .before .pre .0), numbers-fit _ _ _ _ _ _ (c .before .before .before .before .before .before .before .before .before .before .before .before .before .before .before .pre .0) _ _ _ _ _ _ _ _ (c .before .before .before .before .before .before .before .before .before .before .loop .inv .1 (c .before .before .before .before .before .before .before .before .before .before .before .before .before .before .before .pre .0)) (c .before .before .before .before .before .before .before .before .before .loop-test .taken))
+
+same-length : tie.Need-same-length Inv-loop μ-loop
+same-length c = omega (arith, c .before .before .before .before .before .before .before .before .before .before .before .before .before .before .loop .inv .0)
 
 returns : tie.Need-returns Inv-loop μ-loop
-unfolding planOf
-returns c = stops _ (c .before .before .before .before .before .before .before .before .before .before .before .before .before .before .pre .0) _ (c .before .before .before .before .before .before .before .before .before .before .before .before .before .before .pre .1) _ _ _ _ (c .before .before .before .before .before .before .before .before .before .before .before .before .before .before .pre .2) _ _ _ _ _ _ (c .before .before .before .before .before .before .before .before .before .before .before .loop .inv) (c .before .before .before .before .before .before .before .before .before .before .loop-test .taken) _ _ (c .before .before .before .before .before .before .before .hand-out .ensures) _ _ _ _ (c .before .before .before .turn .ensures) (c .if1 .taken)
+returns c = λ S. stops _ _ _ _ _ _ S _ _ _ _ _ _ _ _ (c .before .before .before .before .before .before .before .before .before .before .before .before .before .before .loop .inv .1 S) (c .before .before .before .before .before .before .before .before .before .before .before .before .before .loop-test .taken) _ _ _ (c .before .before .before .before .before .before .before .before .before .hand-out .ensures) _ _ _ _ (c .before .before .before .turn .ensures) (c .if1 .taken)
 
 loop-less : tie.Need-loop-less Inv-loop μ-loop
-loop-less c = omega (arith, c .before .before .before .before .before .before .before .before .before .before .before .loop .inv .ahead)
+loop-less c = omega (arith, c .before .before .before .before .before .before .before .before .before .before .before .before .before .before .loop .inv .1 (c .before .before .before .before .before .before .before .before .before .before .before .before .before .before .before .before .before .before .before .pre .0) .ahead)
 
 loop-again : tie.Need-loop-again Inv-loop μ-loop
-unfolding planOf
-loop-again c = goes-on _ (c .before .before .before .before .before .before .before .before .before .before .before .before .before .before .pre .0) _ (c .before .before .before .before .before .before .before .before .before .before .before .before .before .before .pre .1) _ _ _ _ (c .before .before .before .before .before .before .before .before .before .before .before .before .before .before .pre .2) _ _ _ _ _ _ (c .before .before .before .before .before .before .before .before .before .before .before .loop .inv) (c .before .before .before .before .before .before .before .before .before .before .loop-test .taken) _ _ (c .before .before .before .before .before .before .before .hand-out .ensures) _ _ _ _ (c .before .before .before .turn .ensures) (c .if1 .left)
+loop-again c = (omega (arith, c .before .before .before .before .before .before .before .before .before .before .before .before .before .before .loop .inv .0), λ S. goes-on _ _ _ _ _ _ S _ _ _ _ _ _ _ _ (c .before .before .before .before .before .before .before .before .before .before .before .before .before .before .loop .inv .1 S) (c .before .before .before .before .before .before .before .before .before .before .before .before .before .loop-test .taken) _ _ _ (c .before .before .before .before .before .before .before .before .before .hand-out .ensures) _ _ _ _ (c .before .before .before .turn .ensures) (c .if1 .left) (c .before .before .before .before .before .before .before .before .before .before .before .before .before .before .before .before .before .before .before .pre .2))
+
+same-length-2 : tie.Need-same-length-2 Inv-loop μ-loop
+same-length-2 c = omega (arith, c .before .loop .inv .0)
 
 returns-2 : tie.Need-returns-2 Inv-loop μ-loop
-returns-2 c = ends-well _ (c .before .before .before .before .pre .0) _ (c .before .before .before .before .pre .1) _ _ _ _ (c .before .before .before .before .pre .2) _ _ _ _ _ _ (c .before .loop .inv) (c .loop-test .left)
+returns-2 c = λ S. ends-well _ _ _ _ _ _ S _ _ _ _ _ _ _ _ (c .before .loop .inv .1 S) (c .loop-test .left)
 
 pub simulate-spec : {M : Type 1} → statement M
 simulate-spec =
@@ -44,10 +51,13 @@ simulate-spec =
     (tie.spec
     Inv-loop
     μ-loop
+    element-copy-out-next
     loop-holds
     hand-out-requires
     turn-requires
+    same-length
     returns
     loop-less
     loop-again
+    same-length-2
     returns-2)

@@ -1,0 +1,60 @@
+// The scheduler in plain C, to be measured beside the proved one: what it takes and what it answers.
+#pragma once
+
+// The kit has a compiler and a C library, but no headers.
+typedef unsigned char u8;
+typedef __UINT32_TYPE__ u32;
+typedef __UINT64_TYPE__ u64;
+typedef __INT32_TYPE__ i32;
+typedef __SIZE_TYPE__ usize;
+
+enum { MOST_TASKS = 16, MOST_SLICES = 4096 };
+
+// Period and run-time in slices, sample memory in words.
+struct task {
+    u32 period, runtime, memory;
+};
+
+// A verdict or a start: refusal number (0: accepted), margin, cycle, job count and task.
+struct answer {
+    u32 number;
+    i32 margin;
+    u32 cycle;
+    u32 jobs;
+    usize task;
+};
+
+enum mode { BY_TABLE, FILLING, UNNAMED };
+
+// A task in a run: its period and run-time, the slices that its current job has used, and whether that job has ended.
+struct place {
+    u32 period, runtime, used;
+    _Bool ended;
+};
+
+struct state {
+    struct place places[MOST_TASKS];
+    usize count;
+    u32 cycle, position, clock;
+    enum mode mode;
+};
+
+// Who runs: a refusal number, or the task (0: idle).
+struct runner {
+    u32 number;
+    u32 task;
+};
+
+struct answer plain_judge(const struct task *tasks, usize count, u32 supply);
+struct answer plain_build(const struct task *tasks, usize count, u32 supply, u8 *table, usize length);
+struct answer plain_start(const struct task *tasks, usize count, u32 supply, enum mode mode, u32 clock, u8 *log, usize length,
+                          struct state *state);
+struct runner plain_who(const struct state *state, const u8 *table, usize length);
+u32 plain_step(struct state *state, const u8 *table, usize length, u8 *log, usize log_length, u32 clock, u8 report);
+
+// What the border to the proved library does in one call, here likewise: a start, then who runs in each slice of the cycle, no
+// job having ended, added up; or a step for each report, up to the first refusal, whose number is the answer.
+usize plain_whos(const struct task *tasks, usize count, u32 supply, enum mode mode, const u8 *table, usize length, u8 *log,
+                 usize log_length);
+u32 plain_steps(const struct task *tasks, usize count, u32 supply, enum mode mode, u32 clock, const u8 *table, usize length,
+                u8 *log, usize log_length, const u8 *reports, usize steps);
