@@ -45,6 +45,8 @@ struct runner {
     u32 task;
 };
 
+// A list from numbers, three a task, as both sides are given it: the first 16 tasks, and how many there are.
+usize plain_list(const u32 *numbers, usize length, struct task *tasks);
 struct answer plain_judge(const struct task *tasks, usize count, u32 supply);
 struct answer plain_build(const struct task *tasks, usize count, u32 supply, u8 *table, usize length);
 struct answer plain_start(const struct task *tasks, usize count, u32 supply, enum mode mode, u32 clock, u8 *log, usize length,
