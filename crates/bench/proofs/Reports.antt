@@ -7,14 +7,15 @@ use lib.Dec.{ltb}
 use lib.ListN.{getD}
 use borrow.Author.Tests.{lt-ltb, eq-eqb, ne-eqb}
 use Rattle.basis.specs.Choose.{choose, choose-yes, choose-no}
+use Rattle.plan.specs.Plan.{Demand}
 use Rattle.run.specs.declared.State.{State}
 use Rattle.run.specs.declared.Runner.{Runner}
-use Rattle.run.specs.declared.Runner.the-variants.{Idle, Task, Refused}
+use Rattle.run.specs.declared.Runner.the-variants.{Task}
 use Rattle.run.specs.State.{periodOf, currentOf, jobOf, offset, place, placeIn}
 use Rattle.run.specs.Sound.{SoundState}
 use Rattle.run.specs.Who.{running, whoRefusal, ofEntry, answered, whoOf, whoNumbers}
 use Rattle.run.specs.Accepted.{who-accepted, running-to}
-use Rattle.bench.specs.Course.{reportOf, reportIn}
+use Rattle.bench.specs.Course.{reportOf, reportIn, needIn}
 
 -- A job of a sound state has used at most 4,096 slices.
 pub used-most : (s : State) → SoundState s → (i : ℕ) → i < s .count → jobOf s i .used ≤ 4096
@@ -26,22 +27,23 @@ unfolding place placeIn offset currentOf periodOf
 stands-at s i l r e = e ∙ choose-yes _ _ _ (lt-ltb i 16 l)
 
 module _ (needs : List ℕ) (s : State) where
-  pub report-none : (ran : ℕ) → ran ≡ 0 → 0 ≡ reportOf needs s ran
+  pub report-none : (ran : ℕ) → ran ≡ 0 → 0 ≡ reportOf (needIn needs s) s ran
   unfolding reportOf
   report-none ran z = rw z
 
   -- the need of the job that runs, as it is found at its place
   module _ (ran i need at : ℕ) (runs : ran ≡ suc i) (found : need ≡ getD needs at 0) (stands : at ≡ place s i) where
-    need-is : need ≡ getD needs (place s i) 0
+    need-is : need ≡ needIn needs s i (currentOf s i)
+    unfolding needIn place
     need-is = found ∙ ap (λ (x : ℕ). getD needs x 0) stands
 
-    pub report-finished : jobOf s i .used + 1 ≡ need → 1 ≡ reportOf needs s ran
+    pub report-finished : jobOf s i .used + 1 ≡ need → 1 ≡ reportOf (needIn needs s) s ran
     unfolding reportOf
-    report-finished e = sym (ap (reportOf needs s) runs ∙ choose-yes _ 1 0 (eq-eqb _ _ (e ∙ need-is)))
+    report-finished e = sym (ap (reportOf (needIn needs s) s) runs ∙ choose-yes _ 1 0 (eq-eqb _ _ (e ∙ need-is)))
 
-    pub report-working : (jobOf s i .used + 1 ≡ need → ⊥) → 0 ≡ reportOf needs s ran
+    pub report-working : (jobOf s i .used + 1 ≡ need → ⊥) → 0 ≡ reportOf (needIn needs s) s ran
     unfolding reportOf
-    report-working ne = sym (ap (reportOf needs s) runs ∙ choose-no _ 1 0 (ne-eqb _ _ (λ e. ne (e ∙ sym need-is))))
+    report-working ne = sym (ap (reportOf (needIn needs s) s) runs ∙ choose-no _ 1 0 (ne-eqb _ _ (λ e. ne (e ∙ sym need-is))))
 
 -- ---- who runs
 -- A task is answered only where asking is accepted, and it is the one that runs.
@@ -59,15 +61,7 @@ module _ (s : State) (table : List ℕ) (r : Runner) (told : r ≡ whoOf s table
       let A = who-accepted s table .0 (h .0) in
       (A .is-sound, omega (arith, h .1, running-to s table A))
 
-  module _ (needs : List ℕ) where
-    pub idle-reports : r ≡ Idle → 0 ≡ reportIn table needs s
-    unfolding reportIn whoNumbers reportOf
-    idle-reports e = rw (sym told ∙ e)
-
-    pub refused-reports : (n : ℕ) → r ≡ Refused n → 0 ≡ reportIn table needs s
-    unfolding reportIn whoNumbers reportOf
-    refused-reports n e = rw (sym told ∙ e)
-
-    pub task-reports : (n report : ℕ) → r ≡ Task n → report ≡ reportOf needs s n → report ≡ reportIn table needs s
-    unfolding reportIn whoNumbers
-    task-reports n report e er = rw (sym told ∙ e) er
+  module _ (need : Demand) where
+    pub told-reports : (n report : ℕ) → whoNumbers r .task ≡ n → report ≡ reportOf need s n → report ≡ reportIn table need s
+    unfolding reportIn
+    told-reports n report e er = er ∙ ap (reportOf need s) (sym e ∙ ap (λ (x : Runner). whoNumbers x .task) told)

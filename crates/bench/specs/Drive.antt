@@ -12,7 +12,7 @@ use Rattle.verdict.specs.Table.{Built}
 use Rattle.start.specs.declared.Asked.{Asked}
 use Rattle.start.specs.Start.{begunOf, begunState, begunLog}
 use Rattle.bench.specs.declared.Driven.{Driven}
-use Rattle.bench.specs.Course.{Course, courseAt}
+use Rattle.bench.specs.Course.{Course, needIn, courseAt}
 
 -- A task given in microseconds. A refused conversion is 0, which the list's checks refuse.
 unfoldable pub taskIn : ℕ → ℕ → ℕ → ℕ → Task
@@ -30,4 +30,4 @@ begun l supply asked clock log ends =
 pub record Drives (l : TaskList) (supply : ℕ) (asked : Asked) (clock : ℕ) (needs table table′ log log′ ends ends′ : List ℕ) (r : Driven) : Type 0 where
   pub built : Built l supply table table′ (r .built)
   pub started : r .begun ≡ begunOf (verdictOf l supply) (length log)
-  pub whole : record { state = r .state; log = log′; ends = ends′ } ≡ courseAt table′ needs (begun l supply asked clock log ends) (begun l supply asked clock log ends .state .cycle)
+  pub whole : record { state = r .state; log = log′; ends = ends′ } ≡ courseAt table′ (needIn needs (begun l supply asked clock log ends .state)) (begun l supply asked clock log ends) (begun l supply asked clock log ends .state .cycle)

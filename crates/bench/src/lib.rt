@@ -5,7 +5,7 @@ ghost use lib.ListN.{length, getD};
 ghost use Rattle.basis.specs.Bytes.{overwrite};
 ghost use Rattle.units.specs.Conversion.{paper};
 ghost use Rattle.run.specs.Sound.{SoundState};
-ghost use Rattle.bench.specs.Course.{reportOf, reportIn, endOf, noted, SliceClosed, courseAt};
+ghost use Rattle.bench.specs.Course.{reportOf, reportIn, needIn, endOf, noted, SliceClosed, courseAt};
 ghost use Rattle.bench.specs.Drive.{taskIn, Drives};
 use run::Closed;
 use run::Next;
@@ -58,7 +58,7 @@ fn need_at(needs: &[u32], at: usize) -> u32
 // What the job of a task that runs reports.
 fn report_of(state: State, ran: usize, needs: &[u32]) -> u8
     requires { ⌜ SoundState state × (ran ≤ state .count) ⌝ }
-    ensures { λ r. ⌜ r ≡ reportOf (now (needs .entry)) state ran ⌝ }
+    ensures { λ r. ⌜ r ≡ reportOf (needIn (now (needs .entry)) state) state ran ⌝ }
 {
     if ran == 0 {
         return 0;
@@ -70,7 +70,7 @@ fn report_of(state: State, ran: usize, needs: &[u32]) -> u8
 }
 
 fn report(state: State, table: &[u8], needs: &[u32]) -> u8
-    ensures { λ r. ⌜ r ≡ reportIn (now (table .entry)) (now (needs .entry)) state ⌝ }
+    ensures { λ r. ⌜ r ≡ reportIn (now (table .entry)) (needIn (now (needs .entry)) state) state ⌝ }
 {
     let runner = run::who(state, table);
     match runner {
@@ -114,7 +114,7 @@ pub fn close_slice(
     log: &mut [u8],
     ends: &mut [u32],
 ) -> Next
-    ensures { λ r. ⌜ SliceClosed (now (table .entry)) (now (needs .entry)) (record { state = state; log = now (log .entry); ends = now (ends .entry) }) (now (log .exit)) (now (ends .exit)) r ⌝ }
+    ensures { λ r. ⌜ SliceClosed (now (table .entry)) (needIn (now (needs .entry)) state) (record { state = state; log = now (log .entry); ends = now (ends .entry) }) (now (log .exit)) (now (ends .exit)) r ⌝ }
 {
     let told = report(state, table, needs);
     let clock = std::num::wrapping_add_u32(state.clock, 1);
@@ -136,7 +136,7 @@ fn close_slices(
     log: &mut [u8],
     ends: &mut [u32],
 ) -> State
-    ensures { λ r. ⌜ record { state = r; log = now (log .exit); ends = now (ends .exit) } ≡ courseAt (now (table .entry)) (now (needs .entry)) (record { state = state; log = now (log .entry); ends = now (ends .entry) }) (state .cycle) ⌝ }
+    ensures { λ r. ⌜ record { state = r; log = now (log .exit); ends = now (ends .exit) } ≡ courseAt (now (table .entry)) (needIn (now (needs .entry)) state) (record { state = state; log = now (log .entry); ends = now (ends .entry) }) (state .cycle) ⌝ }
 {
     let cycle = state.cycle;
     let mut held = state;

@@ -32,7 +32,8 @@ use Rattle.run.specs.Places.{job-within}
 use Rattle.verdict.specs.declared.Verdict.the-variants as verdict
 use Rattle.verdict.specs.Answers.{ByBounds, ForLateness, OnTimeAll, verdict-tells}
 use Rattle.promises.specs.Demand2.{accepted-as}
-use Rattle.promises.specs.Carries.{Carries, offset-is}
+use Rattle.promises.specs.Demand3.{placeOf}
+use Rattle.promises.specs.Carries.{Carries, offset-is, job-in}
 use Rattle.promises.specs.Reached.{fresh-has, Reached, byte-none}
 use Rattle.promises.specs.Earned.{byteOf, Honest}
 
@@ -73,9 +74,10 @@ start-accepted l supply asked clock log log′ r B z =
 
 -- ---- the jobs of a list
 -- Run-times are from one slice up, so that every job takes one at least.
-pub takes-some : (l : TaskList) (supply : ℕ) → KeepsBounds l supply → (need : Demand) → ((i k : ℕ) → i < l .count → 1 ≤ need i k) → (i k : ℕ) → i < l .count → 1 ≤ takes (planOf l) need i k
+pub takes-some : (l : TaskList) (supply : ℕ) → KeepsBounds l supply → (need : Demand) → ((i k : ℕ) → i < l .count → k < cycleOf l / planOf l .period i → 1 ≤ need i k)
+    → (i k : ℕ) → i < l .count → k < cycleOf l / planOf l .period i → 1 ≤ takes (planOf l) need i k
 unfolding takes planOf
-takes-some l supply K need needs i k li = omega (arith, needs i k li, K .fits i li .runtime-from)
+takes-some l supply K need needs i k li lk = omega (arith, needs i k li lk, K .fits i li .runtime-from)
 
 -- In a state that carries the list's plan the jobs stand in the log where the list puts them.
 pub offset-listed : (l : TaskList) (s : State) → Carries (planOf l) (cycleOf l) s → (i : ℕ) → i ≤ l .count → offset s i ≡ jobSum (l .tasks) (cycleOf l) i
@@ -106,7 +108,7 @@ module _ (l : TaskList) (supply : ℕ) (K : KeepsBounds l supply) (m : Mode) (cl
   unfolding startState jobOf fresh
   start-job i = ap₂ (λ u e. record { used = u; ended = e }) (all-alike 0 i) (all-alike false i)
 
-  start-carries : Carries (planOf l) (cycleOf l) s
+  pub start-carries : Carries (planOf l) (cycleOf l) s
   unfolding planOf startState
   start-carries = record {
     count-is = refl;
@@ -121,6 +123,12 @@ module _ (l : TaskList) (supply : ℕ) (K : KeepsBounds l supply) (m : Mode) (cl
   start-jobs : jobCount s ≡ jobsOf l
   unfolding jobCount jobsOf startState
   start-jobs = offset-listed l s start-carries (l .count) (omega arith)
+
+  -- Every job of the cycle has its place among the jobs.
+  pub place-within : (i k : ℕ) → i < l .count → k < cycleOf l / planOf l .period i → placeOf l i k < jobsOf l
+  unfolding placeOf startState
+  place-within i k li lk =
+      omega (arith, job-within s i k li (subst (λ (x : ℕ). k < cycleOf l / x) (sym (start-period i li)) lk), start-jobs, offset-listed l s start-carries i (omega arith))
 
   start-sound : SoundState s
   unfolding startState fresh planOf
@@ -147,32 +155,24 @@ module _ (l : TaskList) (supply : ℕ) (K : KeepsBounds l supply) (m : Mode) (cl
     cleared = overwrite (λ _. 0) (jobsOf l) log
 
     pub start-byte : (i k : ℕ) → i < l .count → k < cycleOf l / planOf l .period i → getD cleared (offset s i + k) 0 ≡ 0
-    unfolding startState
+    unfolding placeOf
     start-byte i k li lk =
-        let inside : offset s i + k < jobCount s = job-within s i k li (subst (λ (x : ℕ). k < cycleOf l / x) (sym (start-period i li)) lk) in
-        overwrite-at (λ _. 0) log 0 (jobsOf l) (offset s i + k) (omega (arith, start-jobs)) (omega (arith, start-jobs))
-
-    start-mode : s .mode ≡ m
-    unfolding startState
-    start-mode = refl
-
-    start-position : s .position ≡ 0
-    unfolding startState
-    start-position = refl
+        let inside : offset s i + k < jobsOf l = omega (arith, place-within i k li lk, offset-listed l s start-carries i (omega arith)) in
+        overwrite-at (λ _. 0) log 0 (jobsOf l) (offset s i + k) inside (omega arith)
 
     -- The drive begins, in either mode.
-    pub start-reached : (need d : Demand) → ((i k : ℕ) → i < l .count → 1 ≤ need i k) → Reached (planOf l) (cycleOf l) need d m log 0 s cleared
-    unfolding planOf takes
+    pub start-reached : (need d : Demand) → ((i k : ℕ) → i < l .count → k < cycleOf l / planOf l .period i → 1 ≤ need i k) → Reached (planOf l) (cycleOf l) need d m log 0 s cleared
+    unfolding planOf takes startState
     start-reached need d needs = record {
       carries = start-carries;
-      mode-is = start-mode;
+      mode-is = refl;
       room = omega (arith, start-jobs);
       is-sound = start-sound;
-      position-is = start-position;
-      jobs-are = λ i li. rw (start-job i, had-first (planOf l) d i) (fresh-has (need i (job (planOf l) i 0)) (planOf l .runtime i (job (planOf l) i 0)) (takes-some l supply K need needs i (job (planOf l) i 0) li));
+      position-is = refl;
+      jobs-are = λ begins i li. rw (start-job i, had-first (planOf l) d i) (fresh-has (need i (job (planOf l) i 0)) (planOf l .runtime i (job (planOf l) i 0)) (takes-some l supply K need needs i (job (planOf l) i 0) li (job-in start-carries start-sound i 0 li begins)));
       bytes-are = λ i k li lk.
           start-byte i k li lk
-          ∙ sym (byte-none (planOf l) need d i k 0 (omega (arith, takes-some l supply K need needs i k li, nothing-before-release (planOf l) (plan-sound l supply K) d i li k 0 (omega arith))));
+          ∙ sym (byte-none (planOf l) need d i k 0 (omega (arith, takes-some l supply K need needs i k li lk, nothing-before-release (planOf l) (plan-sound l supply K) d i li k 0 (omega arith))));
       beyond = λ x lx. overwrite-kept (λ _. 0) log 0 (jobsOf l) x (omega (arith, start-jobs));
       long = overwrite-length (λ _. 0) log (jobsOf l);
     }

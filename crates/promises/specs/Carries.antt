@@ -52,6 +52,11 @@ module _ {P : Plan} {cycle : ℕ} {s : State} (C : Carries P cycle s) where
   unfolding offset
   offset-is i l = sum-ext _ _ i (λ j lj. jobs-is j (omega arith))
 
+  -- the job that is current in a slice of the cycle is one of the task's jobs in it
+  pub job-in : SoundState s → (i t : ℕ) → i < P .count → t < cycle → job P i t < cycle / P .period i
+  unfolding job
+  job-in S i t li lt = rw (C .period-is i li, C .cycle-is) at (job-in-cycle s S i t (in-state i li) (omega (arith, C .cycle-is)))
+
   -- ---- a task before slice p
   module _ {p : ℕ} (at : s .position ≡ p) (i : ℕ) (li : i < P .count) where
     pub current-is : currentOf s i ≡ job P i p
@@ -71,10 +76,6 @@ module _ {P : Plan} {cycle : ℕ} {s : State} (C : Carries P cycle s) where
     pub place-is : place s i ≡ offset s i + job P i p
     unfolding place
     place-is = ap (λ (k : ℕ). offset s i + k) current-is
-
-    pub job-in : SoundState s → p < cycle → job P i p < cycle / P .period i
-    unfolding job
-    job-in S lp = rw (C .period-is i li, C .cycle-is) at (job-in-cycle s S i p (in-state i li) (omega (arith, C .cycle-is)))
 
     -- whether the current job's deadline follows the slice, and whether the next release does
     deadline-test : deadlineNext s i ≡ eqb (suc (age P i p)) (P .due i)

@@ -9,6 +9,7 @@ use lib.Dec.{ltb}
 use lib.IntN.{ℤ}
 use lib.ListN.{take}
 use Rattle.basis.specs.Choose.{choose}
+use Rattle.plan.specs.Plan.{Demand}
 use Rattle.tasks.specs.declared.TaskList.{TaskList}
 use Rattle.tasks.specs.declared.Bounds.{Bounds}
 use Rattle.tasks.specs.Bounds.{boundsOf}
@@ -41,7 +42,7 @@ use Rattle.printing.specs.Text.{refusalText, tableText}
 use Rattle.printing.specs.Written.{Written, written-one}
 use Rattle.tasks.specs.declared.Task.{Task}
 use Rattle.bench.specs.declared.Driven.{Driven}
-use Rattle.bench.specs.Course.{Course, SliceClosed, courseAt}
+use Rattle.bench.specs.Course.{Course, needIn, SliceClosed, courseAt}
 use Rattle.bench.specs.Drive.{taskIn, begun, Drives}
 
 -- A contract that is an equation leaves one answer, whatever the function.
@@ -120,9 +121,9 @@ write-table table cycle old new new′ r r′ W W′ = written-one W W′
 pub task-in : (period runtime memory slice : ℕ) (r r′ : Task) → r ≡ taskIn period runtime memory slice → r′ ≡ taskIn period runtime memory slice → r ≡ r′
 task-in period runtime memory slice r r′ e e′ = one-answer e e′
 
-pub close-slice : (table needs : List ℕ) (c : Course) (log log′ ends ends′ : List ℕ) (r r′ : Next)
-    → SliceClosed table needs c log ends r → SliceClosed table needs c log′ ends′ r′ → (r ≡ r′) × (log ≡ log′) × (ends ≡ ends′)
-close-slice table needs c log log′ ends ends′ r r′ S S′ =
+pub close-slice : (table : List ℕ) (need : Demand) (c : Course) (log log′ ends ends′ : List ℕ) (r r′ : Next)
+    → SliceClosed table need c log ends r → SliceClosed table need c log′ ends′ r′ → (r ≡ r′) × (log ≡ log′) × (ends ≡ ends′)
+close-slice table need c log log′ ends ends′ r r′ S S′ =
     let after = one-answer (S .after) (S′ .after) in (
       ap₂ (λ (a : Closed) (x : State). record { answer = a; state = x }) (one-answer (S .answer) (S′ .answer)) (ap (λ (x : Course). x .state) after),
       ap (λ (x : Course). x .log) after,
@@ -140,7 +141,7 @@ pub drive : (l : TaskList) (supply : ℕ) (asked : Asked) (clock : ℕ) (needs t
 drive l supply asked clock needs table new new′ log log₁ log₂ ends ends₁ ends₂ r r′ D D′ =
     let built = build l supply table new new′ (r .built) (r′ .built) (D .built) (D′ .built) in
     let whole : _≡_ {A = Course} (record { state = r .state; log = log₁; ends = ends₁ }) (record { state = r′ .state; log = log₂; ends = ends₂ }) =
-    D .whole ∙ ap (λ (t : List ℕ). courseAt t needs (begun l supply asked clock log ends) (begun l supply asked clock log ends .state .cycle)) (built .1) ∙ sym (D′ .whole) in
+    D .whole ∙ ap (λ (t : List ℕ). courseAt t (needIn needs (begun l supply asked clock log ends .state)) (begun l supply asked clock log ends) (begun l supply asked clock log ends .state .cycle)) (built .1) ∙ sym (D′ .whole) in
     record {
       answer = rw (built .0, one-answer (D .started) (D′ .started), ap (λ (x : Course). x .state) whole);
       table-same = built .1;

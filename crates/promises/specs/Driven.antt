@@ -1,15 +1,14 @@
--- Every step of a drive is accepted, and leads from one slice's state and log to the next's; so through the whole cycle.
-use mathlib.Core.Path.{_≡_, refl, sym, ap, subst, _∙_}
+-- Who runs in a slice of a full run is who the plan says, and the step is accepted and leads to the next slice's state and log.
+use mathlib.Core.Path.{_≡_, refl, sym, ap, _∙_}
 use mathlib.Core.List.{List}
-use mathlib.Core.Bool.{Bool, true, false}
+use mathlib.Core.Bool.{true, false}
 use mathlib.Core.Logic.{⊎-elim}
-use Prim.Native.Nat.{ℕ, zero, suc, _+_, _≤_, _<_}
+use Prim.Native.Nat.{ℕ, zero, suc, _/_, _≤_, _<_}
 use native.Mathlib.Omega.{arith}
-use lib.Dec.{eqb}
-use borrow.Author.Tests.{le-leb, lt-leb}
+use borrow.Author.Tests.{le-leb, lt-leb, lt-ltb, le-ltb}
 use lib.ListN.{getD}
-use Rattle.basis.specs.Choose.{choose, choose-yes, choose-no, le-or-lt}
-use Rattle.plan.specs.Plan.{Plan, Sound, Demand, job, age, keyIn, pick, had, entry, takes, table, first, OnTimeUpTo}
+use Rattle.basis.specs.Choose.{choose, choose-yes, choose-no, choose-either, le-or-lt}
+use Rattle.plan.specs.Plan.{Plan, Sound, Demand, job, age, keyIn, pick, had, entry, takes, table, filling, byTable, unlessEnded as unlessHad, first, OnTimeUpTo}
 use Rattle.plan.specs.Rank.{first-same}
 use Rattle.plan.specs.Run.{lacks, lacks-open, lacks-most, had-room}
 use Rattle.plan.specs.Progress.{had-whole}
@@ -22,11 +21,12 @@ use Rattle.run.specs.declared.Closed.the-variants.{Accepted}
 use Rattle.plan.specs.Domination.{on-time-before, filling-on-time}
 use Rattle.run.specs.State.{keyOf, currentOf, jobOf}
 use Rattle.run.specs.Who.{unlessEnded, firstOpen, runningBy, running}
-use Rattle.run.specs.Step.{nextClock, stateAfter}
-use Rattle.run.specs.Accepted.{StepAccepted, step-answers}
-use Rattle.promises.specs.Drive.{reportOf, Own, Steps}
+use Rattle.run.specs.Step.{nextClock, Stepped}
+use Rattle.run.specs.Accepted.{WhoAccepted, StepAccepted, step-answers}
+use Rattle.bench.specs.Course.{reportOf, reportIn}
+use Rattle.promises.specs.Demand3.{Own}
 use Rattle.promises.specs.Carries.{key-now}
-use Rattle.promises.specs.Reached.{Reached, reached-next}
+use Rattle.promises.specs.Reached.{reported, Reached, reached-next}
 
 -- ---- who runs
 -- The run that the mode follows: the table's, or the filling one's.
@@ -35,7 +35,7 @@ demandOf Table P need = P .runtime
 demandOf Filling P need = takes P need
 
 module _ (P : Plan) (S : Sound P) (cycle : ℕ) (need : Demand)
-    (start : List ℕ) (p : ℕ) (s : State) (g : List ℕ) where
+    (start : List ℕ) (p : ℕ) (lp : p < cycle) (s : State) (g : List ℕ) where
   -- Filling, the first-ranking open job is the entry of the filling run, which it has not ended.
   module _ (on : OnTimeUpTo P (takes P need) p) (R : Reached P cycle need (takes P need) Filling start p s g) where
     abbrev b : Demand
@@ -43,11 +43,11 @@ module _ (P : Plan) (S : Sound P) (cycle : ℕ) (need : Demand)
 
     ended-if : (i : ℕ) → i < P .count → b i (job P i p) ≤ had P b p i → jobOf s i .ended ≡ true
     unfolding takes
-    ended-if i li l = R .jobs-are i li .ended-is ∙ le-leb _ _ l
+    ended-if i li l = R .jobs-are lp i li .ended-is ∙ le-leb _ _ l
 
     open-if : (i : ℕ) → i < P .count → had P b p i < b i (job P i p) → jobOf s i .ended ≡ false
     unfolding takes
-    open-if i li l = R .jobs-are i li .ended-is ∙ lt-leb _ _ l
+    open-if i li l = R .jobs-are lp i li .ended-is ∙ lt-leb _ _ l
 
     -- 1 where the job has not ended; a job lacks nothing exactly if it has
     abbrev still-open : ℕ → ℕ
@@ -86,26 +86,40 @@ module _ (P : Plan) (S : Sound P) (cycle : ℕ) (need : Demand)
         let li : i < P .count = omega (arith, entry-within P b p) in
         sym (choose-no (jobOf s i .ended) 0 (suc i) (open-if i li (had-room P S b i li p q)))
 
-    pub filling-runs : (tab : List ℕ) → running s tab ≡ unlessEnded s (entry P b p)
-    unfolding running runningBy
-    filling-runs tab = ap (λ (m : Mode). runningBy m s tab) (R .mode-is) ∙ first-open-is ∙ entry-open (entry P b p) refl
+    pub runs-filling : (tab : List ℕ) → running s tab ≡ filling P need p
+    unfolding running runningBy filling
+    runs-filling tab = ap (λ (m : Mode). runningBy m s tab) (R .mode-is) ∙ first-open-is
+
+    filling-runs : (tab : List ℕ) → running s tab ≡ unlessEnded s (entry P b p)
+    unfolding filling
+    filling-runs tab = runs-filling tab ∙ entry-open (entry P b p) refl
 
   -- By the table, the task of the table's entry runs unless its job has ended.
-  pub table-runs : (tab : List ℕ) → Own P cycle tab → p < cycle → Reached P cycle need (P .runtime) Table start p s g → running s tab ≡ unlessEnded s (entry P (P .runtime) p)
-  unfolding running runningBy table
-  table-runs tab own lp R =
-      ap (λ (m : Mode). runningBy m s tab) (R .mode-is) ∙ ap (unlessEnded s) (ap (λ (x : ℕ). getD tab x 0) (R .position-is) ∙ own .entries p lp)
+  module _ (tab : List ℕ) (own : Own P cycle tab) (R : Reached P cycle need (P .runtime) Table start p s g) where
+    table-runs : running s tab ≡ unlessEnded s (entry P (P .runtime) p)
+    unfolding running runningBy table
+    table-runs = ap (λ (m : Mode). runningBy m s tab) (R .mode-is) ∙ ap (unlessEnded s) (ap (λ (x : ℕ). getD tab x 0) (R .position-is) ∙ own .entries p lp)
+
+    unless-had : (e : ℕ) → e ≤ P .count → unlessEnded s e ≡ unlessHad P need p e
+    unfolding unlessEnded unlessHad takes
+    unless-had zero le = refl
+    unless-had (suc i) le =
+        let ended = R .jobs-are lp i le .ended-is in
+        ⊎-elim
+        (λ (l : takes P need i (job P i p) ≤ had P (P .runtime) p i). choose-yes _ _ _ (ended ∙ le-leb _ _ l) ∙ sym (choose-no _ _ _ (le-ltb _ _ l)))
+        (λ (l : had P (P .runtime) p i < takes P need i (job P i p)). choose-no _ _ _ (ended ∙ lt-leb _ _ l) ∙ sym (choose-yes _ _ _ (lt-ltb _ _ l)))
+        (le-or-lt (takes P need i (job P i p)) (had P (P .runtime) p i))
+
+    pub runs-by-table : running s tab ≡ byTable P need p
+    unfolding byTable table
+    runs-by-table = table-runs ∙ unless-had (entry P (P .runtime) p) (entry-within P (P .runtime) p)
 
 -- ---- every step is accepted
 module _ (need : Demand) (s : State) where
   report-most : (e : ℕ) → reportOf need s e ≤ 1
-  unfolding reportOf choose
+  unfolding reportOf
   report-most zero = omega arith
-  report-most (suc i) = go (eqb (jobOf s i .used + 1) (need i (currentOf s i)))
-    where
-      go : (t : Bool) → choose {A = ℕ} t 1 0 ≤ 1
-      go true = omega arith
-      go false = omega arith
+  report-most (suc i) = choose-either (λ (x : ℕ). x ≤ 1) _ 1 0 (omega arith) (omega arith)
 
   report-runs : (e : ℕ) → reportOf need s e ≡ 1 → 0 < e
   unfolding reportOf
@@ -114,24 +128,27 @@ module _ (need : Demand) (s : State) where
 
 module _ (P : Plan) (cycle : ℕ) (need d : Demand) (m : Mode) (start : List ℕ) (p : ℕ) (lp : p < cycle) (s : State) (g : List ℕ) (R : Reached P cycle need d m start p s g)
     (tab : List ℕ) (own : Own P cycle tab) where
-  drive-accepted : StepAccepted s tab (nextClock (s .clock)) (reportOf need s (running s tab)) g
+  asking-accepted : WhoAccepted s tab
   unfolding table
-  drive-accepted = record {
-    asked = record {
-      is-sound = R .is-sound;
-      not-over = omega (arith, R .position-is, R .carries .cycle-is);
-      readable = λ _. record {
-        length-from = omega (arith, own .reaches, R .carries .cycle-is);
-        entry-to = omega (arith, ap (λ (x : ℕ). getD tab x 0) (R .position-is), own .entries p lp, entry-within P (P .runtime) p, R .carries .count-is);
-      };
+  asking-accepted = record {
+    is-sound = R .is-sound;
+    not-over = omega (arith, R .position-is, R .carries .cycle-is);
+    readable = λ _. record {
+      length-from = omega (arith, own .reaches, R .carries .cycle-is);
+      entry-to = omega (arith, ap (λ (x : ℕ). getD tab x 0) (R .position-is), own .entries p lp, entry-within P (P .runtime) p, R .carries .count-is);
     };
+  }
+
+  drive-accepted : StepAccepted s tab (nextClock (s .clock)) (reportIn tab need s) g
+  drive-accepted = rw (reported s tab asking-accepted need) (record {
+    asked = asking-accepted;
     log-from = omega (arith, R .room, R .long);
     clock-next = refl;
     report-to = report-most need s (running s tab);
     finished-by = report-runs need s (running s tab);
-  }
+  })
 
--- ---- the whole drive
+-- ---- one step
 -- The run that a mode follows lets every job have what it takes, and is on time where the plan is.
 pub run-enough : (P : Plan) (need : Demand) (m : Mode) (i k : ℕ) → takes P need i k ≤ demandOf m P need i k
 unfolding demandOf takes
@@ -143,31 +160,18 @@ unfolding demandOf
 run-on-time P S cycle need on Table = on
 run-on-time P S cycle need on Filling = filling-on-time P S cycle on need
 
-module _ (P : Plan) (S : Sound P) (cycle : ℕ)
-    (need : Demand) (some : (i k : ℕ) → i < P .count → 1 ≤ takes P need i k) (on : OnTimeUpTo P (P .runtime) cycle)
-    (tab : List ℕ) (own : Own P cycle tab) (start : List ℕ) (s : ℕ → State) (g : ℕ → List ℕ) (r : ℕ → Next) (D : Steps cycle tab need s g r) where
-  runs-as : (m : Mode) (p : ℕ) → p < cycle → Reached P cycle need (demandOf m P need) m start p (s p) (g p) → running (s p) tab ≡ unlessEnded (s p) (entry P (demandOf m P need) p)
+module _ (P : Plan) (S : Sound P) (cycle : ℕ) (need : Demand) (on : OnTimeUpTo P (P .runtime) cycle) (tab : List ℕ) (own : Own P cycle tab)
+    (start : List ℕ) (p : ℕ) (lp : p < cycle) (s : State) (g : List ℕ) where
+  -- The slice goes to the entry of that run, unless its job has ended;
+  pub runs-as : (m : Mode) → Reached P cycle need (demandOf m P need) m start p s g → running s tab ≡ unlessEnded s (entry P (demandOf m P need) p)
   unfolding demandOf
-  runs-as Table p lp R = table-runs P S cycle need start p (s p) (g p) tab own lp R
-  runs-as Filling p lp R = filling-runs P S cycle need start p (s p) (g p) (on-time-before P (takes P need) p cycle (omega arith) (filling-on-time P S cycle on need)) R tab
+  runs-as Table R = table-runs P S cycle need start p lp s g tab own R
+  runs-as Filling R = filling-runs P S cycle need start p lp s g (on-time-before P (takes P need) p cycle (omega arith) (filling-on-time P S cycle on need)) R tab
 
-  -- a step of the drive is accepted and leads on
-  one-step : (m : Mode) (p : ℕ) → p < cycle → Reached P cycle need (demandOf m P need) m start p (s p) (g p)
-      → (r p .answer ≡ Accepted) × Reached P cycle need (demandOf m P need) m start (suc p) (s (suc p)) (g (suc p))
-  one-step m p lp R =
-      let A = drive-accepted P cycle need (demandOf m P need) m start p lp (s p) (g p) R tab own in
-      let a = step-answers (s p) tab (nextClock (s p .clock)) (reportOf need (s p) (running (s p) tab)) (g p) (g (suc p)) (r p) A (D .stepped p lp) in (
-        a .0,
-        subst (λ (x : State). Reached P cycle need (demandOf m P need) m start (suc p) x (g (suc p))) (sym (D .handed p lp ∙ a .1))
-            (subst (λ (x : List ℕ). Reached P cycle need (demandOf m P need) m start (suc p) (stateAfter (s p) (running (s p) tab) (nextClock (s p .clock)) (reportOf need (s p) (running (s p) tab))) x) (sym (a .2))
-            (reached-next P S cycle need (demandOf m P need) some (λ i k li. run-enough P need m i k) (run-on-time P S cycle need on m) m start p lp (s p) (g p) R tab (runs-as m p lp R) A)),
-      )
-
-  -- From the start on the drive reaches every slice of the cycle,
-  pub reaches : (m : Mode) → Reached P cycle need (demandOf m P need) m start 0 (s 0) (g 0) → (p : ℕ) → p ≤ cycle → Reached P cycle need (demandOf m P need) m start p (s p) (g p)
-  reaches m R zero l = R
-  reaches m R (suc p) l = one-step m p l (reaches m R p (omega arith)) .1
-
-  -- and no step of it is refused.
-  pub none-refused : (m : Mode) → Reached P cycle need (demandOf m P need) m start 0 (s 0) (g 0) → (p : ℕ) → p < cycle → r p .answer ≡ Accepted
-  none-refused m R p l = one-step m p l (reaches m R p (omega arith)) .0
+  -- and the step is accepted and leads on.
+  pub leads-on : ((i k : ℕ) → i < P .count → k < cycle / P .period i → 1 ≤ takes P need i k) → (m : Mode) → Reached P cycle need (demandOf m P need) m start p s g
+      → (g′ : List ℕ) (r : Next) → Stepped s tab (nextClock (s .clock)) (reportIn tab need s) g g′ r → (r .answer ≡ Accepted) × Reached P cycle need (demandOf m P need) m start (suc p) (r .state) g′
+  leads-on some m R g′ r T =
+      let A = drive-accepted P cycle need (demandOf m P need) m start p lp s g R tab own in
+      let a = step-answers s tab (nextClock (s .clock)) (reportIn tab need s) g g′ r A T in
+      (a .0, rw (a .1, a .2) (reached-next P S cycle need (demandOf m P need) some (λ i k li. run-enough P need m i k) (run-on-time P S cycle need on m) m start p lp s g R tab (runs-as m R) A))

@@ -1,11 +1,10 @@
--- A pass is earned. Whatever is reported, read and lent, with refused calls in between: a log byte is 1 only if an accepted step
--- brought the report finished in a slice in which that very job ran; it is not 0 once the job's deadline has passed; and once
--- written it is not written again before the next start. This is the answer to the empty chamber.
+-- What log and jobs always tell of each other, and that an accepted step keeps it: a byte is not 0 once the job's deadline has
+-- passed, it is not written again, and it becomes 1 by the report finished of that very job alone.
 use mathlib.Core.Path.{_≡_, refl, sym, ap, subst, _∙_}
 use mathlib.Core.List.{List}
 use mathlib.Core.Bool.{Bool, true, false, true≢false, _&&_}
 use mathlib.Core.Logic.{⊎-elim}
-use Prim.Native.Nat.{ℕ, zero, suc, _+_, _/_, _≤_, _<_}
+use Prim.Native.Nat.{ℕ, suc, _+_, _/_, _≤_, _<_}
 use native.Mathlib.Omega.{arith}
 use lib.Dec.{eqb}
 use borrow.Author.Tests.{ne-eqb, eqb-true}
@@ -15,32 +14,14 @@ use Rattle.plan.specs.Plan.{Plan, Sound, release, deadline, job, age}
 use Rattle.plan.specs.Run.{goes-on-or-ends, job-goes-on as job-stays, job-anew as job-follows, age-below, release-age}
 use Rattle.plan.specs.Progress.{releases-grow}
 use Rattle.run.specs.declared.State.{State}
-use Rattle.run.specs.declared.Next.{Next}
-use Rattle.run.specs.declared.Closed.the-variants.{Accepted}
 use Rattle.run.specs.State.{Job, fresh, currentOf, jobOf, deadlineNext, releaseNext, offset, place}
 use Rattle.run.specs.Who.{running}
-use Rattle.run.specs.Step.{stepRefusal, afterSlice, jobAfter, stateAfter, logAfter, Stepped, closedNumber}
+use Rattle.run.specs.Step.{afterSlice, jobAfter, stateAfter, logAfter}
 use Rattle.run.specs.Sound.{SoundState}
-use Rattle.run.specs.Accepted.{StepAccepted, step-accepted, step-answers, who-runs}
+use Rattle.run.specs.Accepted.{StepAccepted, who-runs}
 use Rattle.run.specs.StateAfter.{slice-here, slice-elsewhere, job-anew, job-goes-on, open-not-late, HandedOn, handed-on, state-after-sound}
 use Rattle.run.specs.LogAfter.{byteAfter, log-byte, log-done, log-over, log-late, log-open, log-ended}
-use Rattle.promises.specs.Demand1.{step-refused}
 use Rattle.promises.specs.Carries.{Carries, carries-on, in-state, current-is, place-is, job-in, deadline-follows, release-follows, no-release-follows, job-then, other-stays}
-
--- ---- any calls
--- Call n is given state s n and log g n, with any table, clock reading and report; the next call is given what it gave.
-pub record Calls (s : ℕ → State) (g : ℕ → List ℕ) (tab : ℕ → List ℕ) (clock report : ℕ → ℕ) (r : ℕ → Next) : Type 0 where
-  pub stepped : (n : ℕ) → Stepped (s n) (tab n) (clock n) (report n) (g n) (g (suc n)) (r n)
-  pub handed : (n : ℕ) → s (suc n) ≡ r n .state
-
--- Before call n an accepted step, in a slice in which job k of task i ran, brought the report finished.
-pub record Earned (s : ℕ → State) (tab : ℕ → List ℕ) (report : ℕ → ℕ) (r : ℕ → Next) (n i k : ℕ) : Type 0 where
-  pub call : ℕ
-  pub before : call < n
-  pub accepted : closedNumber (r call .answer) ≡ 0
-  pub ran-here : running (s call) (tab call) ≡ suc i
-  pub that-job : currentOf (s call) i ≡ k
-  pub finished : report call ≡ 1
 
 -- the byte of job k of task i
 unfoldable pub byteOf : State → List ℕ → ℕ → ℕ → ℕ
@@ -86,7 +67,7 @@ module _ (P : Plan) (S : Sound P) (cycle : ℕ) (s : State) (tab : List ℕ) (cl
     li-state = in-state (H .carries) i li
 
     here : Tells P s g i k
-    here = H .tells i k li (job-in (H .carries) refl i li (H .is-sound) (omega (arith, A .asked .not-over, H .carries .cycle-is)))
+    here = H .tells i k li (job-in (H .carries) (H .is-sound) i (s .position) li (omega (arith, A .asked .not-over, H .carries .cycle-is)))
 
     here-before : getD g (place s i) 0 ≡ byteOf s g i k
     unfolding byteOf
@@ -215,7 +196,7 @@ module _ (P : Plan) (S : Sound P) (cycle : ℕ) (s : State) (tab : List ℕ) (cl
             (λ (h : m < k). omega (arith, floor, releases-grow P S (P .runtime) i li m k h, S .due-within i li))
             (le-or-lt k m)
 
-  honest-after : Honest P cycle after log
+  pub honest-after : Honest P cycle after log
   honest-after = record {
     carries = carries-on (H .carries) kept;
     is-sound = state-after-sound s tab clock report g A (H .carries .jobs-room);
@@ -227,7 +208,7 @@ module _ (P : Plan) (S : Sound P) (cycle : ℕ) (s : State) (tab : List ℕ) (cl
   }
 
   -- A byte once written stays.
-  written-stays : (i m : ℕ) → i < P .count → m < cycle / P .period i → (byteOf s g i m ≡ 0 → ⊥) → byteOf after log i m ≡ byteOf s g i m
+  pub written-stays : (i m : ℕ) → i < P .count → m < cycle / P .period i → (byteOf s g i m ≡ 0 → ⊥) → byteOf after log i m ≡ byteOf s g i m
   written-stays i m li lm nz =
       ⊎-elim
       (λ (e : m ≡ job P i (s .position)). rw e (here-stays i li (rw e at nz)))
@@ -247,7 +228,7 @@ module _ (P : Plan) (S : Sound P) (cycle : ℕ) (s : State) (tab : List ℕ) (cl
   pass-test i old z e = one-by-first _ _ _ old z e
 
   -- A byte that becomes 1 is that of the job that ran and reported finished.
-  pass-brought : (i m : ℕ) → i < P .count → m < cycle / P .period i → byteOf s g i m ≡ 0 → byteOf after log i m ≡ 1
+  pub pass-brought : (i m : ℕ) → i < P .count → m < cycle / P .period i → byteOf s g i m ≡ 0 → byteOf after log i m ≡ 1
       → (running s tab ≡ suc i) × (currentOf s i ≡ m) × (report ≡ 1)
   pass-brought i m li lm z one =
       ⊎-elim
@@ -258,65 +239,3 @@ module _ (P : Plan) (S : Sound P) (cycle : ℕ) (s : State) (tab : List ℕ) (cl
       (eqb-true ran (suc i) (both .0), current-is (H .carries) refl i li ∙ sym e, eqb-true report 1 (both .1)))
       (λ (ne : m ≡ job P i (s .position) → ⊥). absurd (omega (arith, untouched i li m lm ne)))
       (eq-or-ne m (job P i (s .position)))
-
--- ---- any calls
-module _ (s : ℕ → State) (g : ℕ → List ℕ) (tab : ℕ → List ℕ) (clock report : ℕ → ℕ) (r : ℕ → Next) (C : Calls s g tab clock report r) where
-  -- What a call makes of the state and the log: what it got, or what an accepted step gives.
-  pub data Made (n : ℕ) : Type 0 where
-    same : s (suc n) ≡ s n → g (suc n) ≡ g n → Made n
-    moved : StepAccepted (s n) (tab n) (clock n) (report n) (g n) → r n .answer ≡ Accepted
-        → s (suc n) ≡ stateAfter (s n) (running (s n) (tab n)) (clock n) (report n) → g (suc n) ≡ logAfter (s n) (running (s n) (tab n)) (report n) (g n) → Made n
-
-  made : (n : ℕ) → Made n
-  made n = go (stepRefusal (s n) (tab n) (clock n) (report n) (g n)) refl
-    where
-      go : (x : ℕ) → stepRefusal (s n) (tab n) (clock n) (report n) (g n) ≡ x → Made n
-      go zero e =
-          let A = step-accepted (s n) (tab n) (clock n) (report n) (g n) .0 e in
-          let a = step-answers (s n) (tab n) (clock n) (report n) (g n) (g (suc n)) (r n) A (C .stepped n) in
-          moved A (a .0) (C .handed n ∙ a .1) (a .2)
-      go (suc x) e =
-          let a = step-refused (s n) (tab n) (clock n) (report n) (g n) (g (suc n)) (r n) x e (C .stepped n) in
-          same (C .handed n ∙ a .state-kept) (a .log-kept)
-
-  -- ---- from a start whose log and jobs agree
-  module _ (P : Plan) (S : Sound P) (cycle : ℕ) (begun : Honest P cycle (s 0) (g 0)) where
-    honest-next : (n : ℕ) → Honest P cycle (s n) (g n) → Made n → Honest P cycle (s (suc n)) (g (suc n))
-    honest-next n H (same es eg) = rw (es, eg) H
-    honest-next n H (moved A a es eg) = rw (es, eg) (honest-after P S cycle (s n) (tab n) (clock n) (report n) (g n) A H)
-
-    pub honest : (n : ℕ) → Honest P cycle (s n) (g n)
-    honest zero = begun
-    honest (suc n) = honest-next n (honest n) (made n)
-
-    module _ (i k : ℕ) (li : i < P .count) (lk : k < cycle / P .period i) where
-      -- A byte is not 0 once its job's deadline has passed.
-      pub told-by-deadline : (n : ℕ) → deadline P i k ≤ s n .position → byteOf (s n) (g n) i k ≡ 0 → ⊥
-      told-by-deadline n l = honest n .tells i k li lk .passed l
-
-      -- A byte once written is not written again.
-      stays-by : (n : ℕ) → (byteOf (s n) (g n) i k ≡ 0 → ⊥) → Made n → byteOf (s (suc n)) (g (suc n)) i k ≡ byteOf (s n) (g n) i k
-      stays-by n nz (same es eg) = rw (es, eg)
-      stays-by n nz (moved A a es eg) = rw (es, eg) (written-stays P S cycle (s n) (tab n) (clock n) (report n) (g n) A (honest n) i k li lk nz)
-
-      pub never-rewritten : (n : ℕ) → (byteOf (s n) (g n) i k ≡ 0 → ⊥) → byteOf (s (suc n)) (g (suc n)) i k ≡ byteOf (s n) (g n) i k
-      never-rewritten n nz = stays-by n nz (made n)
-
-      -- A byte is 1 only if a call before brought it.
-      earlier-too : (n : ℕ) → Earned s tab report r n i k → Earned s tab report r (suc n) i k
-      earlier-too n E = record { call = E .call; before = omega (arith, E .before); accepted = E .accepted; ran-here = E .ran-here; that-job = E .that-job; finished = E .finished }
-
-      earned-by : (n : ℕ) → (byteOf (s n) (g n) i k ≡ 1 → Earned s tab report r n i k) → byteOf (s (suc n)) (g (suc n)) i k ≡ 1 → Made n → Earned s tab report r (suc n) i k
-      unfolding closedNumber
-      earned-by n so-far one (same es eg) = earlier-too n (so-far (sym (rw (es, eg)) ∙ one))
-      earned-by n so-far one (moved A a es eg) =
-          ⊎-elim
-          (λ (z : byteOf (s n) (g n) i k ≡ 0).
-          let b = pass-brought P S cycle (s n) (tab n) (clock n) (report n) (g n) A (honest n) i k li lk z (sym (rw (es, eg)) ∙ one) in
-          record { call = n; before = omega arith; accepted = ap closedNumber a; ran-here = b .0; that-job = b .1; finished = b .2 })
-          (λ (nz : byteOf (s n) (g n) i k ≡ 0 → ⊥). earlier-too n (so-far (sym (never-rewritten n nz) ∙ one)))
-          (eq-or-ne (byteOf (s n) (g n) i k) 0)
-
-      pub pass-earned : byteOf (s 0) (g 0) i k ≡ 0 → (n : ℕ) → byteOf (s n) (g n) i k ≡ 1 → Earned s tab report r n i k
-      pass-earned none zero one = absurd (omega arith)
-      pass-earned none (suc n) one = earned-by n (pass-earned none n) one (made n)

@@ -1,23 +1,38 @@
--- What demand 3 speaks of is there: an accepted build gives the list's own table, and every list has its drives, for any needs,
--- table and log. (That an accepted list whose log has room is not refused at the start is `accepted-starts` of Begun.)
-use mathlib.Core.Path.{_≡_, refl}
+-- What demand 3 speaks of is there: an accepted build gives the list's own table, and the course of an accepted list whose log has
+-- room is a full run, for any needs from one slice up. Every full run is such a course.
+use mathlib.Core.Path.{_≡_, refl, _∙_}
 use mathlib.Core.List.{List}
-use Prim.Native.Nat.{ℕ, zero, suc}
+use Prim.Native.Nat.{ℕ, zero, suc, _≤_, _<_}
+use native.Mathlib.Omega.{arith}
 use lib.ListN.{length}
+use borrow.Author.Tests.{le-ltb}
+use Rattle.basis.specs.Choose.{choose-no}
+use Rattle.plan.specs.Plan.{Demand}
 use Rattle.tasks.specs.declared.TaskList.{TaskList}
 use Rattle.tasks.specs.List.{planOf}
-use Rattle.tasks.specs.Bounds.{cycleOf}
+use Rattle.tasks.specs.Bounds.{cycleOf, jobsOf}
 use Rattle.verdict.specs.declared.Verdict.{Verdict}
+use Rattle.verdict.specs.declared.Verdict.the-variants.{Accepted, Refused}
 use Rattle.verdict.specs.Verdict.{verdictOf, numbers}
-use Rattle.verdict.specs.Table.{Built}
+use Rattle.verdict.specs.Table.{fitted, Built}
 use Rattle.start.specs.declared.Asked.{Asked}
-use Rattle.start.specs.Start.{begunOf, begunState, begunLog}
-use Rattle.plan.specs.Plan.{Demand}
+use Rattle.start.specs.declared.Started.{Started}
+use Rattle.start.specs.Start.{begunOf, begunState, begunLog, Begins}
 use Rattle.run.specs.declared.State.{State}
-use Rattle.run.specs.Who.{running}
-use Rattle.run.specs.Step.{nextClock, stepRefusal, stateAfter, logAfter, answerOf, nextState, nextLog}
-use Rattle.promises.specs.Drive.{reportOf, Own, Drive}
+use Rattle.run.specs.declared.Next.{Next}
+use Rattle.run.specs.Step.{nextClock, answerOf, Stepped}
+use Rattle.bench.specs.Course.{Course, reportIn, refusalIn, stateIn, logIn, closed, courseAt}
+use Rattle.bench.specs.Drive.{begun as firstOf}
 use Rattle.promises.specs.Demand2.{accepted-as, list-accepted, table-is}
+use Rattle.promises.specs.Demand3.{jobsIn, Own, FullRun}
+use Rattle.promises.specs.Begun.{accepted-starts}
+
+-- ---- tables
+-- A table that reaches the cycle's end is not refused by 8.
+pub fitted-whole : (v : Verdict) (room : ℕ) → numbers v .cycle ≤ room → fitted v room ≡ v
+unfolding fitted numbers
+fitted-whole (Accepted cycle jobs task margin) room le = choose-no _ _ _ (le-ltb room cycle le)
+fitted-whole (Refused number task margin) room le = refl
 
 -- What an accepted build leaves in the lent bytes is the list's own table.
 pub own-table : (l : TaskList) (supply : ℕ) (old new : List ℕ) (v : Verdict) → Built l supply old new v → numbers v .number ≡ 0 → Own (planOf l) (cycleOf l) new
@@ -25,30 +40,54 @@ own-table l supply old new v B z =
     let T = table-is l supply (accepted-as l supply (list-accepted l supply old new v B z) .keeps) old new v B z in
     record { reaches = T .reaches; entries = T .entries }
 
-module _ (l : TaskList) (supply : ℕ) (asked : Asked) (clock : ℕ) (need : Demand) (tab log : List ℕ) where
-  record Held : Type 0 where
-    state : State
-    bytes : List ℕ
+-- ---- full runs
+module _ (l : TaskList) (supply : ℕ) (asked : Asked) (clock : ℕ) (log : List ℕ) where
+  -- The start as its contract has it.
+  abbrev started : Started
+  started = record { answer = begunOf (verdictOf l supply) (length log); state = begunState l asked clock (verdictOf l supply) (length log) }
 
-  abbrev refusalIn : Held → ℕ
-  refusalIn h = stepRefusal (h .state) tab (nextClock (h .state .clock)) (reportOf need (h .state) (running (h .state) tab)) (h .bytes)
+  pub starts : Begins l supply asked clock log (begunLog (verdictOf l supply) log) started
+  starts = record { answer = refl; state = refl; bytes = refl }
 
-  unfoldable held : ℕ → Held
-  held zero = record { state = begunState l asked clock (verdictOf l supply) (length log); bytes = begunLog (verdictOf l supply) log }
-  held (suc p) =
-      record {
-        state = nextState (refusalIn (held p)) (held p .state) (stateAfter (held p .state) (running (held p .state) tab) (nextClock (held p .state .clock)) (reportOf need (held p .state) (running (held p .state) tab)));
-        bytes = nextLog (refusalIn (held p)) (held p .bytes) (logAfter (held p .state) (running (held p .state) tab) (reportOf need (held p .state) (running (held p .state) tab)) (held p .bytes));
-      }
+  module _ (need : Demand) (tab ends : List ℕ) where
+    abbrev course : ℕ → Course
+    course = courseAt tab need (firstOf l supply asked clock log ends)
 
-  pub a-drive : Drive l supply asked clock need tab log
-  unfolding held
-  a-drive = record {
-    begun = record { answer = begunOf (verdictOf l supply) (length log); state = held 0 .state };
-    states = λ p. held p .state;
-    logs = λ p. held p .bytes;
-    answers = λ p. record { answer = answerOf (refusalIn (held p)); state = held (suc p) .state };
-    begins = record { answer = refl; state = refl; bytes = refl };
-    from-start = refl;
-    steps = record { stepped = λ p _. record { answer = refl; state = refl; bytes = refl }; handed = λ p _. refl };
-  }
+    unfoldable pub course-run : numbers (verdictOf l supply) .number ≡ 0 → jobsOf l ≤ length log → ((i k : ℕ) → i < l .count → k < jobsIn l i → 1 ≤ need i k) → Own (planOf l) (cycleOf l) tab → FullRun l
+    unfolding courseAt closed stateIn logIn refusalIn firstOf
+    course-run ok room needs own = record {
+      supply = supply;
+      asked = asked;
+      clock = clock;
+      need = need;
+      tab = tab;
+      log = log;
+      needs-from = needs;
+      own = own;
+      begun = started;
+      states = λ p. course p .state;
+      logs = λ p. course p .log;
+      answers = λ p. record { answer = answerOf (refusalIn tab need (course p)); state = course (suc p) .state };
+      begins = starts;
+      accepted = accepted-starts l supply asked clock log _ _ starts ok room;
+      from-start = refl;
+      steps = record { stepped = λ p _. record { answer = refl; state = refl; bytes = refl }; handed = λ p _. refl };
+    }
+
+-- There is no other: the states and logs of a full run are those of the course.
+same-slice : (tab : List ℕ) (need : Demand) (c : Course) (s : State) (g g′ : List ℕ) (r : Next) → s ≡ c .state → g ≡ c .log → Stepped s tab (nextClock (s .clock)) (reportIn tab need s) g g′ r
+    → (r .state ≡ closed tab need c .state) × (g′ ≡ closed tab need c .log)
+unfolding closed stateIn logIn refusalIn
+same-slice tab need c s g g′ r es eg S = (cc (S .state), cc (S .bytes))
+
+module _ (l : TaskList) (F : FullRun l) (ends : List ℕ) where
+  abbrev held : ℕ → Course
+  held = courseAt (F .tab) (F .need) (firstOf l (F .supply) (F .asked) (F .clock) (F .log) ends)
+
+  pub is-course : (p : ℕ) → p ≤ cycleOf l → (F .states p ≡ held p .state) × (F .logs p ≡ held p .log)
+  unfolding courseAt firstOf
+  is-course zero lp = (F .from-start ∙ F .begins .state, F .begins .bytes)
+  is-course (suc p) lp =
+      let so-far = is-course p (omega arith) in
+      let step = same-slice (F .tab) (F .need) (held p) (F .states p) (F .logs p) (F .logs (suc p)) (F .answers p) (so-far .0) (so-far .1) (F .steps .stepped p lp) in
+      (F .steps .handed p lp ∙ step .0, step .1)

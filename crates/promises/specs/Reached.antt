@@ -1,5 +1,5 @@
 -- What the state and the log of a drive are before each slice: the jobs as far as the plan's run has brought them.
-use mathlib.Core.Path.{_≡_, sym, ap, subst, _∙_}
+use mathlib.Core.Path.{_≡_, refl, sym, ap, subst, _∙_}
 use mathlib.Core.List.{List}
 use mathlib.Core.Bool.{true, false, _||_}
 use mathlib.Core.Logic.{⊎-elim}
@@ -8,7 +8,7 @@ use native.Mathlib.Omega.{arith}
 use lib.Dec.{eqb, leb}
 use borrow.Author.Tests.{eq-eqb, ne-eqb, le-leb, lt-leb}
 use lib.ListN.{length, getD}
-use Rattle.basis.specs.Choose.{choose, choose-yes, choose-no, bool-cases, le-or-lt, eq-or-ne}
+use Rattle.basis.specs.Choose.{choose, choose-yes, choose-no, choose-either, bool-cases, le-or-lt, eq-or-ne}
 use Rattle.plan.specs.Plan.{Plan, Sound, Demand, job, age, gets, had, entry, takes, OnTimeUpTo}
 use Rattle.plan.specs.Work.{gets-one, gets-none, gets-cases}
 use Rattle.plan.specs.Progress.{hadUpTo, on-time-had, on-time-grows, others-stay}
@@ -17,13 +17,13 @@ use Rattle.plan.specs.Run.{goes-on-or-ends, job-goes-on as job-stays, had-goes-
 use Rattle.run.specs.declared.Mode.{Mode}
 use Rattle.run.specs.declared.State.{State}
 use Rattle.run.specs.State.{Job, fresh, runtimeOf, currentOf, jobOf, deadlineNext, offset, jobCount, place}
-use Rattle.run.specs.Who.{unlessEnded, running}
+use Rattle.run.specs.Who.{unlessEnded, running, whoRefusal, ofEntry, answered, whoOf, whoNumbers}
 use Rattle.run.specs.Step.{nextClock, afterSlice, jobAfter, stateAfter, logAfter}
 use Rattle.run.specs.Sound.{SoundState}
-use Rattle.run.specs.Accepted.{StepAccepted}
+use Rattle.run.specs.Accepted.{WhoAccepted, StepAccepted, who-accepted}
 use Rattle.run.specs.LogAfter.{log-length, log-beyond, log-done, log-over, log-open, log-ended}
 use Rattle.run.specs.StateAfter.{slice-here, slice-elsewhere, job-anew, job-goes-on, HandedOn, handed-on, state-after-sound}
-use Rattle.promises.specs.Drive.{reportOf}
+use Rattle.bench.specs.Course.{reportOf, reportIn}
 use Rattle.promises.specs.Carries.{Carries, carries-on, in-state, current-is, runtime-now, place-is, job-in, no-deadline-follows, release-follows, no-release-follows, job-then, other-stays}
 
 -- ---- one task in one slice, as numbers
@@ -43,6 +43,16 @@ unless-ended s e i q t = ap (unlessEnded s) q ∙ choose-yes (jobOf s i .ended) 
 pub unless-open : (s : State) (e i : ℕ) → e ≡ suc i → jobOf s i .ended ≡ false → unlessEnded s e ≡ suc i
 unfolding unlessEnded
 unless-open s e i q f = ap (unlessEnded s) q ∙ choose-no (jobOf s i .ended) 0 (suc i) f
+
+-- Where asking is accepted, the one who is told is the one who runs; so the report is that one's.
+pub reported : (s : State) (tab : List ℕ) → WhoAccepted s tab → (need : Demand) → reportIn tab need s ≡ reportOf need s (running s tab)
+unfolding reportIn whoOf answered ofEntry whoNumbers
+reported s tab A need = ap (reportOf need s) (told (whoRefusal s tab) (running s tab) (who-accepted s tab .1 A))
+  where
+    told : (n e : ℕ) → n ≡ 0 → whoNumbers (answered n e) .task ≡ e
+    told zero zero z = refl
+    told zero (suc i) z = refl
+    told (suc n) e z = absurd (omega arith)
 
 -- The job has had `h` slices, needs `need` and is closed at `runtime`: its count and whether it has ended.
 pub record HasHad (j : Job) (h need runtime : ℕ) : Type 0 where
@@ -101,12 +111,8 @@ unfoldable pub resultByte : Plan → Demand → ℕ → ℕ → ℕ
 resultByte P need i k = choose (leb (need i k) (P .runtime i k)) 1 2
 
 pub result-some : (P : Plan) (need : Demand) (i k : ℕ) → resultByte P need i k ≡ 0 → ⊥
-unfolding resultByte choose
-result-some P need i k z =
-    ⊎-elim
-    (λ (t : leb (need i k) (P .runtime i k) ≡ true). omega (arith, sym (rw t at z)))
-    (λ (f : leb (need i k) (P .runtime i k) ≡ false). omega (arith, sym (rw f at z)))
-    (bool-cases (leb (need i k) (P .runtime i k)))
+unfolding resultByte
+result-some P need i k = choose-either (λ (x : ℕ). x ≡ 0 → ⊥) _ 1 2 (λ z. omega arith) (λ z. omega arith)
 
 -- once it has had what it takes in the run under demand d. Before that there is no result.
 unfoldable pub byteUpTo : Plan → Demand → Demand → ℕ → ℕ → ℕ → ℕ
@@ -127,29 +133,29 @@ pub record Reached (P : Plan) (cycle : ℕ) (need d : Demand) (m : Mode) (first 
   pub room : jobCount s ≤ length first
   pub is-sound : SoundState s
   pub position-is : s .position ≡ p
-  pub jobs-are : (i : ℕ) → i < P .count → HasHad (jobOf s i) (had P d p i) (need i (job P i p)) (P .runtime i (job P i p))
+  pub jobs-are : p < cycle → (i : ℕ) → i < P .count → HasHad (jobOf s i) (had P d p i) (need i (job P i p)) (P .runtime i (job P i p))
   pub bytes-are : (i k : ℕ) → i < P .count → k < cycle / P .period i → getD g (offset s i + k) 0 ≡ byteUpTo P need d i k p
   pub beyond : (m : ℕ) → jobCount s ≤ m → getD g m 0 ≡ getD first m 0
   pub long : length g ≡ length first
 
 -- ---- one step
 module _ (P : Plan) (S : Sound P) (cycle : ℕ)
-    (need d : Demand) (some : (i k : ℕ) → i < P .count → 1 ≤ takes P need i k) (enough : (i k : ℕ) → i < P .count → takes P need i k ≤ d i k) (on : OnTimeUpTo P d cycle)
+    (need d : Demand) (some : (i k : ℕ) → i < P .count → k < cycle / P .period i → 1 ≤ takes P need i k) (enough : (i k : ℕ) → i < P .count → takes P need i k ≤ d i k) (on : OnTimeUpTo P d cycle)
     (m : Mode) (first : List ℕ) (p : ℕ) (lp : p < cycle) (s : State) (g : List ℕ) (R : Reached P cycle need d m first p s g)
     (tab : List ℕ) (ran-is : running s tab ≡ unlessEnded s (entry P d p))
-    (A : StepAccepted s tab (nextClock (s .clock)) (reportOf need s (running s tab)) g) where
+    (A : StepAccepted s tab (nextClock (s .clock)) (reportIn tab need s) g) where
   abbrev ran : ℕ
   ran = running s tab
 
   abbrev report : ℕ
-  report = reportOf need s (running s tab)
+  report = reportIn tab need s
 
   abbrev after : State
   after = stateAfter s ran (nextClock (s .clock)) report
 
   reports : (i : ℕ) → i < P .count → unlessEnded s (entry P d p) ≡ suc i → report ≡ choose (eqb (jobOf s i .used + 1) (need i (job P i p))) 1 0
   unfolding reportOf
-  reports i li q = ap (reportOf need s) (ran-is ∙ q) ∙ ap (λ (k : ℕ). choose (eqb (jobOf s i .used + 1) (need i k)) 1 0) (current-is (R .carries) (R .position-is) i li)
+  reports i li q = reported s tab (A .asked) need ∙ ap (reportOf need s) (ran-is ∙ q) ∙ ap (λ (k : ℕ). choose (eqb (jobOf s i .used + 1) (need i k)) 1 0) (current-is (R .carries) (R .position-is) i li)
 
   module _ (i : ℕ) (li : i < P .count) where
     -- the current job, what it needs and what it may have, and what it has had with this slice
@@ -165,17 +171,17 @@ module _ (P : Plan) (S : Sound P) (cycle : ℕ)
     after-slice : HasHad (afterSlice s ran report i) now-had (need i k) (P .runtime i k)
     after-slice =
         subst (λ (x : ℕ). HasHad (afterSlice s x report i) now-had (need i k) (P .runtime i k)) (sym ran-is)
-        (slice-brings s (entry P d p) i (had P d p i) (need i k) (P .runtime i k) report (R .jobs-are i li) (runtime-now (R .carries) (R .position-is) i li) (reports i li))
+        (slice-brings s (entry P d p) i (had P d p i) (need i k) (P .runtime i k) report (R .jobs-are lp i li) (runtime-now (R .carries) (R .position-is) i li) (reports i li))
 
     -- ---- the next job
-    job-next-is : HasHad (jobAfter s ran report i) (had P d (suc p) i) (need i (job P i (suc p))) (P .runtime i (job P i (suc p)))
+    job-next-is : suc p < cycle → HasHad (jobAfter s ran report i) (had P d (suc p) i) (need i (job P i (suc p))) (P .runtime i (job P i (suc p)))
     unfolding takes
-    job-next-is =
+    job-next-is follows =
         ⊎-elim
         (λ (l : suc (age P i p) < P .period i).
         rw (job-goes-on s ran report i (no-release-follows (R .carries) (R .position-is) i li l), had-goes-on P S d i li p l, job-stays P S i li p l) after-slice)
         (λ (e : suc (age P i p) ≡ P .period i).
-        rw (job-anew s ran report i (release-follows (R .carries) (R .position-is) i li e), had-anew P S d i li p e) (fresh-has (need i (job P i (suc p))) (P .runtime i (job P i (suc p))) (some i (job P i (suc p)) li)))
+        rw (job-anew s ran report i (release-follows (R .carries) (R .position-is) i li e), had-anew P S d i li p e) (fresh-has (need i (job P i (suc p))) (P .runtime i (job P i (suc p))) (some i (job P i (suc p)) li (job-in (R .carries) (R .is-sound) i (suc p) li follows))))
         (goes-on-or-ends P S i li p)
 
     -- ---- its byte
@@ -198,7 +204,7 @@ module _ (P : Plan) (S : Sound P) (cycle : ℕ)
     li-state = in-state (R .carries) i li
 
     byte-before : getD g (place s i) 0 ≡ byteUpTo P need d i k p
-    byte-before = ap (λ (x : ℕ). getD g x 0) (place-is (R .carries) (R .position-is) i li) ∙ R .bytes-are i k li (job-in (R .carries) (R .position-is) i li (R .is-sound) lp)
+    byte-before = ap (λ (x : ℕ). getD g x 0) (place-is (R .carries) (R .position-is) i li) ∙ R .bytes-are i k li (job-in (R .carries) (R .is-sound) i p li lp)
 
     -- the slice that brings the job what it takes is its own, and its report tells done from over
     module _ (short : had P d p i < b) (full : b ≤ now-had) where
@@ -207,11 +213,11 @@ module _ (P : Plan) (S : Sound P) (cycle : ℕ)
 
       runs : unlessEnded s (entry P d p) ≡ suc i
       unfolding takes
-      runs = unless-open s (entry P d p) i own (R .jobs-are i li .ended-is ∙ lt-leb b (had P d p i) short)
+      runs = unless-open s (entry P d p) i own (R .jobs-are lp i li .ended-is ∙ lt-leb b (had P d p i) short)
 
       count-is-takes : jobOf s i .used + 1 ≡ b
       unfolding takes
-      count-is-takes = omega (arith, R .jobs-are i li .used-is, gets-one (entry P d p) i own)
+      count-is-takes = omega (arith, R .jobs-are lp i li .used-is, gets-one (entry P d p) i own)
 
       ending-byte : getD (logAfter s ran report g) (place s i) 0 ≡ resultByte P need i k
       unfolding resultByte takes
@@ -232,7 +238,7 @@ module _ (P : Plan) (S : Sound P) (cycle : ℕ)
     byte-then =
         ⊎-elim
         (λ (ended : b ≤ had P d p i).
-        log-ended s tab (nextClock (s .clock)) report g A i li-state (R .jobs-are i li .ended-is ∙ le-leb b (had P d p i) ended)
+        log-ended s tab (nextClock (s .clock)) report g A i li-state (R .jobs-are lp i li .ended-is ∙ le-leb b (had P d p i) ended)
         ∙ byte-before ∙ byte-result P need d i k p (omega (arith, had-before)) ∙ sym (byte-result P need d i k (suc p) (omega (arith, had-then))))
         (λ (short : had P d p i < b).
         ⊎-elim
@@ -263,9 +269,9 @@ module _ (P : Plan) (S : Sound P) (cycle : ℕ)
         room = omega (arith, kept .job-count-kept, R .room);
         is-sound = state-after-sound s tab (nextClock (s .clock)) report g A (R .carries .jobs-room);
         position-is = omega (arith, kept .position-next, R .position-is);
-        jobs-are = λ i li.
+        jobs-are = λ follows i li.
             subst (λ (j : Job). HasHad j (had P d (suc p) i) (need i (job P i (suc p))) (P .runtime i (job P i (suc p))))
-            (sym (job-then (R .carries) (R .position-is) i li tab (nextClock (s .clock)) report g A)) (job-next-is i li);
+            (sym (job-then (R .carries) (R .position-is) i li tab (nextClock (s .clock)) report g A)) (job-next-is i li follows);
         bytes-are = λ i k li lk. ap (λ (x : ℕ). getD (logAfter s ran report g) (x + k) 0) (kept .offset-kept i) ∙ bytes-then i k li lk;
         beyond = λ x l. log-beyond s tab (nextClock (s .clock)) report g A x (omega (arith, kept .job-count-kept)) ∙ R .beyond x (omega (arith, kept .job-count-kept));
         long = log-length s tab (nextClock (s .clock)) report g A ∙ R .long;

@@ -1,30 +1,30 @@
 -- The wrong programs of the paper, refuted: whatever answers keep the contracts, they are not those of a verdict that refuses all, of
 -- one verdict or table for all lists, of an invented margin or job count, of a step that does nothing, or of a first step that
 -- closes the whole cycle while later ones only count.
-use mathlib.Core.Path.{_≡_, refl, sym, ap, _∙_}
+use mathlib.Core.Path.{_≡_, sym, ap, _∙_}
 use mathlib.Core.List.{List}
-use Prim.Native.Nat.{ℕ, zero, suc, _/_, _≤_, _<_}
+use Prim.Native.Nat.{ℕ, zero, suc, _≤_, _<_}
 use native.Mathlib.Omega.{arith}
 use lib.IntN.{ℤ, pos, natAbs}
 use lib.ListN.{length, getD, replicate, length-replicate}
-use borrow.Author.Tests.{le-ltb}
-use Rattle.basis.specs.Choose.{choose-no}
-use Rattle.plan.specs.Plan.{Demand}
 use Rattle.tasks.specs.declared.Task.{Task}
 use Rattle.tasks.specs.declared.TaskList.{TaskList}
-use Rattle.tasks.specs.List.{planOf, listOf}
+use Rattle.tasks.specs.List.{listOf}
 use Rattle.tasks.specs.Bounds.{cycleOf}
 use Rattle.verdict.specs.declared.Verdict.{Verdict}
-use Rattle.verdict.specs.declared.Verdict.the-variants.{Accepted, Refused}
 use Rattle.verdict.specs.Verdict.{verdictOf, Numbers, numbers}
-use Rattle.verdict.specs.Table.{fitted, tabled, Built}
-use Rattle.start.specs.declared.Asked.{Asked}
-use Rattle.start.specs.Start.{begunNumbers}
+use Rattle.verdict.specs.Table.{tabled, Built}
+use Rattle.start.specs.declared.Asked.the-variants.{Table}
+use Rattle.run.specs.declared.State.{State}
+use Rattle.run.specs.declared.Next.{Next}
+use Rattle.run.specs.Step.{Stepped}
 use Rattle.starred.specs.Lists.{verdict, entries, accepted, late, A, B, C, E, G}
 use Rattle.starred.specs.Starred.{starred}
 use Rattle.promises.specs.Demand1.{build-refused}
-use Rattle.promises.specs.Drive.{Own, Drive, endIn}
-use Rattle.promises.specs.Demand3.{has-task, has-job, EndsIn, ends-in-own-slice, end-within, logging-shows, ends-differ}
+use Rattle.promises.specs.Demand3.{FullRun, EndsWith}
+use Rattle.promises.specs.Demand3Holds.{reached, has-task, has-job, ends-in-own-slice, logging-shows, one-end-a-slice}
+use Rattle.promises.specs.Exists.{fitted-whole}
+use Rattle.promises.specs.RunOnA.{runOnA}
 
 -- ---- verdicts
 -- What an answer that keeps the verdict's contract says of a list with a supply of 0.
@@ -60,12 +60,6 @@ not-one-job-count v w a e same =
     omega arith
 
 -- ---- tables
--- a table that reaches the cycle's end is not refused by 8
-fitted-whole : (v : Verdict) (room : ℕ) → numbers v .cycle ≤ room → fitted v room ≡ v
-unfolding fitted numbers
-fitted-whole (Accepted cycle jobs task margin) room le = choose-no _ _ _ (le-ltb room cycle le)
-fitted-whole (Refused number task margin) room le = refl
-
 -- what table building leaves in n bytes that all held 255
 builds : (ts : List Task) (n : ℕ) (new : List ℕ) (v : Verdict) → verdict ts .cycle ≤ n → Built (listOf ts) 0 (replicate n 255) new v → new ≡ entries ts n
 unfolding entries verdict
@@ -98,36 +92,43 @@ not-one-accepted-table a g v w TA TG same = omega (arith, ap (λ (bytes : List �
     begins-G = ap (λ (bytes : List ℕ). getD bytes 0 0) (builds G 12 g w (omega (arith, ap (λ (n : Numbers). n .cycle) (starred .verdict-G))) TG ∙ starred .table-G)
 
 -- ---- steps
-module _ (l : TaskList) (supply : ℕ) (asked : Asked) (clock : ℕ) (need : Demand) (needs : (i k : ℕ) → i < l .count → 1 ≤ need i k)
-    (tab log : List ℕ) (own : Own (planOf l) (cycleOf l) tab) (D : Drive l supply asked clock need tab log) (ok : begunNumbers (D .begun .answer) .number ≡ 0) where
-  ends : (i : ℕ) → i < l .count → (p : ℕ) × EndsIn l supply asked clock need needs tab log own D ok i 0 p
-  ends i li = ends-in-own-slice l supply asked clock need needs tab log own D ok i 0 li (has-job l supply asked clock need needs tab log own D ok i li)
-
-  shows : (i p : ℕ) → i < l .count → EndsIn l supply asked clock need needs tab log own D ok i 0 p → D .logs (suc p) ≡ D .logs p → ⊥
-  shows i p li E = logging-shows l supply asked clock need needs tab log own D ok i 0 p li (has-job l supply asked clock need needs tab log own D ok i li) E
-
-  in-cycle : (i p : ℕ) → EndsIn l supply asked clock need needs tab log own D ok i 0 p → p < cycleOf l
-  in-cycle i p E = omega (arith, E .end-is, end-within l supply asked clock need needs tab log own D ok i 0)
+module _ (l : TaskList) (F : FullRun l) where
+  ends : (i : ℕ) → i < l .count → (p : ℕ) × EndsWith l F i 0 p
+  ends i li = ends-in-own-slice l F i 0 li (has-job l F i li)
 
   -- A step that does nothing: the log would keep its zeros.
-  pub not-all-idle : ((p : ℕ) → p < cycleOf l → D .logs (suc p) ≡ D .logs p) → ⊥
+  pub not-all-idle : ((p : ℕ) → p < cycleOf l → F .logs (suc p) ≡ F .logs p) → ⊥
   not-all-idle idle =
-      let first = has-task l supply asked clock need needs tab log own D ok in
+      let first = has-task l F in
       let e = ends 0 first in
-      shows 0 (e .0) first (e .1) (idle (e .0) (in-cycle 0 (e .0) (e .1)))
+      logging-shows l F 0 0 first (has-job l F 0 first) (e .0) (e .1) (idle (e .0) (e .1 .within))
 
   -- A first step that closes the whole cycle while later ones only count: of two tasks, two jobs would end together.
-  pub not-all-at-once : 1 < l .count → ((p : ℕ) → 0 < p → p < cycleOf l → D .logs (suc p) ≡ D .logs p) → ⊥
-  not-all-at-once two idle =
-      ends-differ l supply asked clock need needs tab log own D ok 0 0 1 0 (omega arith) (job 0 (omega arith)) (omega arith) (job 1 two) (λ z. omega arith)
-      (at-once 0 (omega arith) ∙ sym (at-once 1 two))
+  pub not-all-at-once : 1 < l .count → ((p : ℕ) → 0 < p → p < cycleOf l → F .logs (suc p) ≡ F .logs p) → ⊥
+  not-all-at-once two idle = omega (arith, one-end-a-slice l F 0 0 1 0 0 (at-once 0 (omega arith)) (at-once 1 two) .0)
     where
-      job : (i : ℕ) → i < l .count → 0 < cycleOf l / planOf l .period i
-      job i li = has-job l supply asked clock need needs tab log own D ok i li
-
-      at-once : (i : ℕ) → i < l .count → endIn l (D .logs) i 0 ≡ 1
+      at-once : (i : ℕ) → i < l .count → EndsWith l F i 0 0
       at-once i li = ended (ends i li .0) (ends i li .1)
         where
-          ended : (p : ℕ) → EndsIn l supply asked clock need needs tab log own D ok i 0 p → endIn l (D .logs) i 0 ≡ 1
-          ended zero E = E .end-is
-          ended (suc p) E = absurd (shows i (suc p) li E (idle (suc p) (omega arith) (in-cycle i (suc p) E)))
+          ended : (p : ℕ) → EndsWith l F i 0 p → EndsWith l F i 0 0
+          ended zero E = E
+          ended (suc p) E = absurd (logging-shows l F i 0 li (has-job l F i li) (suc p) E (idle (suc p) (omega arith) (E .within)))
+
+-- So no step that keeps its contract is such a one, since list A has a full run.
+pub record StepKept : Type 0 where
+  pub answer : State → List ℕ → ℕ → ℕ → List ℕ → Next
+  pub leaves : State → List ℕ → ℕ → ℕ → List ℕ → List ℕ
+  pub keeps : (s : State) (table : List ℕ) (clock report : ℕ) (log : List ℕ) → Stepped s table clock report log (leaves s table clock report log) (answer s table clock report log)
+
+module _ (step : StepKept) where
+  pub no-idle-step : ((s : State) (table : List ℕ) (clock report : ℕ) (log : List ℕ) → step .leaves s table clock report log ≡ log) → ⊥
+  no-idle-step idle =
+      let F = runOnA Table in
+      not-all-idle (listOf A) F (λ p lp. F .steps .stepped p lp .bytes ∙ sym (step .keeps (F .states p) (F .tab) _ _ (F .logs p) .bytes) ∙ idle (F .states p) (F .tab) _ _ (F .logs p))
+
+  pub no-step-for-all : ((s : State) (table : List ℕ) (clock report : ℕ) (log : List ℕ) → 0 < s .position → step .leaves s table clock report log ≡ log) → ⊥
+  unfolding listOf A
+  no-step-for-all idle =
+      let F = runOnA Table in
+      not-all-at-once (listOf A) F (omega arith) (λ p later lp.
+      F .steps .stepped p lp .bytes ∙ sym (step .keeps (F .states p) (F .tab) _ _ (F .logs p) .bytes) ∙ idle (F .states p) (F .tab) _ _ (F .logs p) (omega (arith, reached (listOf A) F p (omega arith) .position-is)))

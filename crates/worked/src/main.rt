@@ -1,4 +1,4 @@
-// The lists and the run that the rules paper works by hand and that no theorem states: each value found beside the paper's.
+// The lists that the rules paper works by hand and that no theorem states, and its run on A: each value found beside the paper's.
 use libc::STDOUT_FILENO;
 use start::Asked;
 use tasks::Task;

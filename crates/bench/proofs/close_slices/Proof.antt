@@ -3,7 +3,7 @@ use Prim.Native.Nat.{_≤_, _<_, _-_}
 use mathlib.Core.Path.{_≡_, refl, _∙_}
 use native.Mathlib.Omega.{arith}
 use lib.ListN.{length}
-use Rattle.bench.specs.Course.{Course, courseAt}
+use Rattle.bench.specs.Course.{Course, needIn, courseAt}
 use borrow.Author.Needs.{needs}
 use Rattle.bench.proofs.Turns.{one-more-slice}
 use Rattle.bench.proofs.close_slices.Statement.{statement}
@@ -11,7 +11,7 @@ use Rattle.bench.proofs.close_slices.Tie as tie
 
 abbrev Inv-loop : tie.InvT-loop
 Inv-loop table needs log₀ ends₀ cycle held₀ p₀ log ends held p =
-    (p ≤ cycle) × (cycle < 4294967296) × (_≡_ {A = Course} (record { state = held; log = log; ends = ends }) (courseAt table needs (record { state = held₀; log = log₀; ends = ends₀ }) p)) × (length log ≡ length log₀) × (length ends ≡ length ends₀)
+    (p ≤ cycle) × (cycle < 4294967296) × (_≡_ {A = Course} (record { state = held; log = log; ends = ends }) (courseAt table (needIn needs held₀) (record { state = held₀; log = log₀; ends = ends₀ }) p)) × (length log ≡ length log₀) × (length ends ≡ length ends₀)
 
 abbrev μ-loop : tie.MeasureT-loop
 μ-loop table needs log₀ ends₀ cycle held₀ p₀ log ends held p = cycle - p

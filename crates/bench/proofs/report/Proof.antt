@@ -1,5 +1,8 @@
 -- `bench::report` meets its contract, by each answer to who runs.
-use Rattle.bench.proofs.Reports.{runs-in, idle-reports, refused-reports, task-reports}
+use Rattle.bench.proofs.Reports.{runs-in, told-reports}
+use mathlib.Core.Path.{refl}
+use Rattle.run.specs.Who.{whoNumbers}
+use Rattle.bench.specs.Course.{reportOf}
 use borrow.Author.Needs.{needs}
 use Rattle.bench.proofs.report.Statement.{statement}
 use Rattle.bench.proofs.report.Tie as tie
@@ -20,13 +23,16 @@ enum-told-2 : tie.Need-enum-told-2
 enum-told-2 c = search needs
 
 returns : tie.Need-returns
-returns c = idle-reports _ _ _ (c .before .before .who .ensures) _ (c .enum-told .given .1)
+unfolding whoNumbers reportOf
+returns c = told-reports _ _ _ (c .before .before .who .ensures) _ 0 0 (rw (c .enum-told .given .1)) refl
 
 returns-2 : tie.Need-returns-2
-returns-2 c = task-reports _ _ _ (c .before .before .before .before .who .ensures) _ _ _ (c .before .before .runner .given .1) (c .report-of .ensures)
+unfolding whoNumbers
+returns-2 c = told-reports _ _ _ (c .before .before .before .before .who .ensures) _ _ _ (rw (c .before .before .runner .given .1)) (c .report-of .ensures)
 
 returns-3 : tie.Need-returns-3
-returns-3 c = refused-reports _ _ _ (c .before .before .who .ensures) _ _ (c .enum-told2 .given .1)
+unfolding whoNumbers reportOf
+returns-3 c = told-reports _ _ _ (c .before .before .who .ensures) _ 0 0 (rw (c .enum-told2 .given .1)) refl
 
 pub report-spec : {M : Type 1} → statement M
 report-spec =
