@@ -32,7 +32,7 @@ use Rattle.readings.specs.declared.Refusal.{Refusal}
 use Rattle.readings.specs.declared.Logged.{Logged}
 use Rattle.readings.specs.Reading.{entryOf, refusalOf, loggedOf}
 use Rattle.units.specs.declared.Slices.{Slices}
-use Rattle.units.specs.Conversion.{paper, runtimeOf, periodOf}
+use Rattle.units.specs.Conversion.{paper, runtimeSlices, periodSlices}
 use Rattle.units.specs.Laws.{paper-tells}
 use Rattle.records.specs.declared.Parsed.{Parsed}
 use Rattle.records.specs.Grammar.{Reads}
@@ -98,10 +98,10 @@ pub read-logged : (byte : ℕ) (r r′ : Logged) → r ≡ loggedOf byte → r�
 read-logged byte r r′ e e′ = one-answer e e′
 
 -- units: runtime_slices, period_slices
-pub runtime-slices : (micros slice : ℕ) (r r′ : Slices) → paper r ≡ runtimeOf micros slice → paper r′ ≡ runtimeOf micros slice → r ≡ r′
+pub runtime-slices : (micros slice : ℕ) (r r′ : Slices) → paper r ≡ runtimeSlices micros slice → paper r′ ≡ runtimeSlices micros slice → r ≡ r′
 runtime-slices micros slice r r′ e e′ = paper-tells r r′ (one-answer e e′)
 
-pub period-slices : (micros slice : ℕ) (r r′ : Slices) → paper r ≡ periodOf micros slice → paper r′ ≡ periodOf micros slice → r ≡ r′
+pub period-slices : (micros slice : ℕ) (r r′ : Slices) → paper r ≡ periodSlices micros slice → paper r′ ≡ periodSlices micros slice → r ≡ r′
 period-slices micros slice r r′ e e′ = paper-tells r r′ (one-answer e e′)
 
 -- records: read_list

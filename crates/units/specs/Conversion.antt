@@ -25,9 +25,9 @@ paper (Count n) = accepted n
 paper Refused = refused
 
 -- A run-time becomes slices by division by the slice length, rounded up. Refused: slice length 0.
-unfoldable pub runtimeOf : ℕ → ℕ → Conversion
-runtimeOf micros slice = choose (eqb slice 0) refused (accepted (ceil micros slice))
+unfoldable pub runtimeSlices : ℕ → ℕ → Conversion
+runtimeSlices micros slice = choose (eqb slice 0) refused (accepted (ceil micros slice))
 
 -- A period by exact division. Refused: slice length 0, or a period that is not a whole number of slices.
-unfoldable pub periodOf : ℕ → ℕ → Conversion
-periodOf micros slice = choose (eqb slice 0 || not (eqb (micros % slice) 0)) refused (accepted (micros / slice))
+unfoldable pub periodSlices : ℕ → ℕ → Conversion
+periodSlices micros slice = choose (eqb slice 0 || not (eqb (micros % slice) 0)) refused (accepted (micros / slice))

@@ -139,6 +139,36 @@ fn lists_of_one(tally: Tally) -> Tally {
     compare(t, b"(0,0) task", none.task, 1)
 }
 
+// 1,001 microseconds are no whole number of slices of 500: the conversion is refused, and a period of 0 after it.
+fn part_of_a_slice(tally: Tally) -> Tally {
+    let part = bench::task_in(1001, 500, 0, 500);
+    let judged = take_apart(verdict::judge(list_of(part, task(0, 0), task(0, 0), 1), 0));
+    let t = compare(
+        tally,
+        b"1,001 microseconds in slices of 500: period",
+        part.period,
+        0,
+    );
+    let t = compare(
+        t,
+        b"1,001 microseconds in slices of 500: run-time of 500",
+        part.runtime,
+        1,
+    );
+    let t = compare(
+        t,
+        b"1,001 microseconds in slices of 500: refusal",
+        judged.refusal,
+        3,
+    );
+    compare(
+        t,
+        b"1,001 microseconds in slices of 500: task",
+        judged.task,
+        1,
+    )
+}
+
 fn lists_of_two(tally: Tally) -> Tally {
     let wide = of_two(task(63, 1), task(64, 1));
     let t = compare(tally, b"(63,1)(64,1) refusal", wide.refusal, 0);
@@ -176,7 +206,7 @@ fn main() {
         differ: 0,
     };
     say(b"lists\n");
-    let lists = lists_of_two(lists_of_one(none));
+    let lists = lists_of_two(part_of_a_slice(lists_of_one(none)));
     let table = run_on_a(lists, b"run on A by the table\n", Asked::Table, 10);
     let filling = run_on_a(table, b"run on A filling\n", Asked::Filling, 6);
     say_number(b"", filling.agree);
