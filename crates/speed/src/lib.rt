@@ -41,19 +41,23 @@ fn task_at(numbers: &[u32], at: usize) -> Task
 
 // The list of numbers: period, run-time and memory of a task, then of the next.
 fn list_of(numbers: &[u32]) -> TaskList {
-    let mut tasks = [Task {
-        period: 0,
-        runtime: 0,
-        memory: 0,
-    }; 16];
     let count = numbers.len() / 3;
+    let mut list = TaskList {
+        tasks: [Task {
+            period: 0,
+            runtime: 0,
+            memory: 0,
+        }; 16],
+        count,
+    };
     let most = kept(count);
     let mut i = 0;
     while i < most {
-        tasks[i] = task_at(numbers, i * 3);
+        let task = task_at(numbers, i * 3);
+        list.tasks[i] = task;
         i += 1;
     }
-    TaskList { tasks, count }
+    list
 }
 
 fn of_verdict(verdict: Verdict) -> Answer {

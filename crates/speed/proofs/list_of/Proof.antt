@@ -6,10 +6,10 @@ use Rattle.speed.proofs.list_of.Statement.{statement}
 use Rattle.speed.proofs.list_of.Tie as tie
 
 abbrev Inv-loop : tie.InvT-loop
-Inv-loop numbers tasks₀ count most i₀ tasks i = (most ≤ 16) × (most * 3 ≤ length numbers)
+Inv-loop numbers count list₀ most i₀ list i = (most ≤ 16) × (most * 3 ≤ length numbers)
 
 abbrev μ-loop : tie.MeasureT-loop
-μ-loop numbers tasks₀ count most i₀ tasks i = most - i
+μ-loop numbers count list₀ most i₀ list i = most - i
 
 kept-requires : tie.Need-kept-requires Inv-loop μ-loop
 kept-requires c κs = search needs
@@ -23,11 +23,11 @@ mul-task-at c = search needs
 task-at-requires : tie.Need-task-at-requires Inv-loop μ-loop
 task-at-requires c κs = search needs
 
-mul-tasks : tie.Need-mul-tasks Inv-loop μ-loop
-mul-tasks c = search needs
+mul-task : tie.Need-mul-task Inv-loop μ-loop
+mul-task c = search needs
 
-array-set-from-tasks : tie.Need-array-set-from-tasks Inv-loop μ-loop
-array-set-from-tasks c = search needs
+element-set-from-task : tie.Need-element-set-from-task Inv-loop μ-loop
+element-set-from-task c = search needs
 
 add-i : tie.Need-add-i Inv-loop μ-loop
 add-i c = search needs
@@ -51,8 +51,8 @@ list-of-spec =
     loop-holds
     mul-task-at
     task-at-requires
-    mul-tasks
-    array-set-from-tasks
+    mul-task
+    element-set-from-task
     add-i
     loop-less
     loop-again
