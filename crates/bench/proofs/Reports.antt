@@ -11,8 +11,9 @@ use Rattle.plan.specs.Plan.{Demand}
 use Rattle.run.specs.declared.State.{State}
 use Rattle.run.specs.declared.Runner.{Runner}
 use Rattle.run.specs.declared.Runner.the-variants.{Task}
-use Rattle.run.specs.State.{periodOf, currentOf, jobOf, offset, place, placeIn}
+use Rattle.run.specs.State.{currentOf, jobOf, place, placeIn}
 use Rattle.run.specs.Sound.{SoundState}
+use Rattle.run.specs.Places.{place-by-numbers}
 use Rattle.run.specs.Who.{running, whoRefusal, ofEntry, answered, whoOf, whoNumbers}
 use Rattle.run.specs.Accepted.{who-accepted, running-to}
 use Rattle.bench.specs.Course.{reportOf, reportIn, needIn}
@@ -23,8 +24,7 @@ used-most s S i l = let T = S .tasks-sound i l in omega (arith, T .used-to, T .r
 
 -- Its place in the log, as the run works it out.
 pub stands-at : (s : State) (i : ℕ) → i < 16 → (r : ℕ) → r ≡ choose (ltb i 16) (placeIn (s .periods) (s .cycle) (s .position) i) 0 → r ≡ place s i
-unfolding place placeIn offset currentOf periodOf
-stands-at s i l r e = e ∙ choose-yes _ _ _ (lt-ltb i 16 l)
+stands-at s i l r e = e ∙ choose-yes _ _ _ (lt-ltb i 16 l) ∙ place-by-numbers s i
 
 module _ (needs : List ℕ) (s : State) where
   pub report-none : (ran : ℕ) → ran ≡ 0 → 0 ≡ reportOf (needIn needs s) s ran

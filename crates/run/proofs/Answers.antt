@@ -11,14 +11,14 @@ use Rattle.run.specs.declared.Mode.the-variants.{Table}
 use Rattle.run.specs.declared.State.{State}
 use Rattle.run.specs.declared.Closed.{Closed}
 use Rattle.run.specs.declared.Closed.the-variants.{Accepted, Refused}
-use Rattle.run.specs.State.{periodOf, jobOf, currentOf, offset, place, placeIn}
-use Rattle.run.specs.Places.{place-within}
+use Rattle.run.specs.State.{periodOf, jobOf, place, placeIn}
+use Rattle.run.specs.Places.{place-by-numbers, place-within}
 use Rattle.run.specs.Who.{whoRefusal, running}
 use Rattle.run.specs.Step.{of12, of13, withResult, stepRefusal, stateAfter, logAfter, answerOf, nextState, nextLog, stateOf, SteppedIn, Stepped}
 use Rattle.run.specs.Accepted.{WhoAccepted, StepAccepted, next-asked, next-spared, step-accepted, state-is, accepted-none, refused-some, heldAfter, in-place, who-runs, running-to}
 use Rattle.run.specs.LogAfter.{put-length, result-length}
 use Rattle.run.specs.Shapes.{Answers, twelveOn, inAll, usedOne, resultByte, resultPut, endedIf, served, renewed, lateUpTo, goneOn}
-use Rattle.run.proofs.Served.{no-byte, result-put, late-served, state-served}
+use Rattle.run.proofs.Served.{some-byte, result-put, late-served, state-served}
 
 -- ---- refused: a number that is not 0
 closed-is : (n : ℕ) → (n ≡ 0 → ⊥) → Refused n ≡ answerOf n
@@ -111,8 +111,7 @@ module _ (s : State) (table : List ℕ) (clock report : ℕ) (log : List ℕ) (r
       omega (arith, T .used-to, T .runtime-to, T .period-to)
 
   within-log : (i : ℕ) → i < s .count → placeIn (s .periods) (s .cycle) (s .position) i < length log
-  unfolding placeIn place offset currentOf periodOf
-  within-log i l = omega (arith, place-within s (asked .is-sound) (asked .not-over) i l, P .accepted .log-from)
+  within-log i l = omega (arith, place-by-numbers s i, place-within s (asked .is-sound) (asked .not-over) i l, P .accepted .log-from)
 
   module _ (in-all result : ℕ) (ei : in-all ≡ inAll ran (s .used)) (er : result ≡ resultByte (s .runtimes) ran in-all report) where
     byte-is : result ≡ resultByte (s .runtimes) ran (inAll ran (s .used)) report
@@ -120,11 +119,7 @@ module _ (s : State) (table : List ℕ) (clock report : ℕ) (log : List ℕ) (r
 
     -- a result is that of a task that ran
     pub result-of-one : 0 < result → 0 < ran
-    result-of-one p = go ran refl
-      where
-        go : (n : ℕ) → ran ≡ n → 0 < n
-        go zero e = absurd (omega (arith, byte-is, ap (λ (x : ℕ). resultByte (s .runtimes) x (inAll x (s .used)) report) e, no-byte s report))
-        go (suc n) e = omega arith
+    result-of-one p = some-byte s report ran (λ z. omega (arith, byte-is))
 
     pub result-lies : 0 < result → (0 < ran) × (ran - 1 < 16) × (placeIn (s .periods) (s .cycle) (s .position) (ran - 1) < length log)
     result-lies p =
@@ -145,8 +140,7 @@ module _ (s : State) (table : List ℕ) (clock report : ℕ) (log : List ℕ) (r
           eu (ee ∙ ap (λ (x : ℕ). endedIf ran x (s .ended)) byte-is)
 
       marked-result : marked ≡ withResult s ran report log
-      unfolding placeIn place offset currentOf periodOf
-      marked-result = ek ∙ ap (resultPut log (place s (ran - 1))) byte-is ∙ result-put s report ran log
+      marked-result = ek ∙ ap₂ (resultPut log) (place-by-numbers s (ran - 1)) byte-is ∙ result-put s report ran log
 
       pub closing : Closes begun marked
       unfolding periodOf

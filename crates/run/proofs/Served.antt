@@ -15,6 +15,7 @@ use Rattle.basis.specs.Choose.{choose, choose-yes, choose-no, bool-cases, eq-or
 use Rattle.run.specs.declared.State.{State}
 use Rattle.run.specs.State.{Job, fresh, periodOf, runtimeOf, currentOf, ageOf, jobOf, offset, place, placeIn, deadlineNext, releaseNext}
 use Rattle.run.specs.Step.{afterSlice, resultOf, withResult, withLate, jobAfter, stateAfter, stateOf}
+use Rattle.run.specs.Places.{place-by-numbers}
 use Rattle.run.specs.StateAfter.{slice-here, slice-elsewhere}
 use Rattle.run.specs.Shapes.{inAll, usedOne, resultByte, resultPut, endedIf, served, renewed, lateUpTo, goneOn, endsHere}
 
@@ -115,9 +116,14 @@ module _ (s : State) (report : ℕ) where
   abbrev byteOf : ℕ → ℕ
   byteOf ran = resultByte (s .runtimes) ran (inAll ran (s .used)) report
 
-  pub no-byte : byteOf 0 ≡ 0
+  no-byte : byteOf 0 ≡ 0
   unfolding resultByte choose
   no-byte = refl
+
+  -- A result is that of a task that ran.
+  pub some-byte : (ran : ℕ) → (byteOf ran ≡ 0 → ⊥) → 0 < ran
+  some-byte zero none = absurd (none no-byte)
+  some-byte (suc i) none = omega arith
 
   its-byte : (i : ℕ) → byteOf (suc i) ≡ choose (eqb report 1) 1 (choose (eqb (jobOf s i .used + 1) (runtimeOf s i (currentOf s i))) 2 0)
   unfolding resultByte inAll jobOf runtimeOf choose
@@ -143,21 +149,13 @@ module _ (s : State) (report : ℕ) where
     here : (k : ℕ) → ran ≡ suc k → afterSlice s ran report k .ended ≡ not (eqb (byteOf ran) 0)
     here k e = ap (λ (j : Job). j .ended) (slice-here s ran report k e) ∙ sym (ap (λ (x : ℕ). not (eqb x 0)) (ap byteOf e ∙ its-byte k) ∙ ended-by _ _)
 
-    -- a result is that of a task that ran
-    some-byte : eqb (byteOf ran) 0 ≡ false → 0 < ran
-    some-byte f =
-        ⊎-elim
-        (λ (z : ran ≡ 0). absurd (eqb-false (byteOf ran) 0 f (ap byteOf z ∙ no-byte)))
-        (λ (nz : ran ≡ 0 → ⊥). omega arith)
-        (eq-or-ne ran 0)
-
     elsewhere : (k : ℕ) → (ran ≡ suc k → ⊥) → getD (endedIf ran (byteOf ran) (s .ended)) k false ≡ afterSlice s ran report k .ended
     unfolding endedIf jobOf
     elsewhere k ne =
         ⊎-elim
         (λ (t : eqb (byteOf ran) 0 ≡ true). ap (λ (l : List Bool). getD l k false) (choose-yes _ _ _ t))
         (λ (f : eqb (byteOf ran) 0 ≡ false).
-        ap (λ (l : List Bool). getD l k false) (choose-no _ _ _ f) ∙ getD-set-other (s .ended) (ran - 1) k true false (λ q. ne (omega (arith, some-byte f))))
+        ap (λ (l : List Bool). getD l k false) (choose-no _ _ _ f) ∙ getD-set-other (s .ended) (ran - 1) k true false (λ q. ne (omega (arith, some-byte ran (eqb-false (byteOf ran) 0 f)))))
         (bool-cases (eqb (byteOf ran) 0))
         ∙ sym (ap (λ (j : Job). j .ended) (slice-elsewhere s ran report k ne))
 
@@ -244,8 +242,8 @@ module _ (t : State) (i : ℕ) (now : State) (is : now ≡ renewed t i) where
       (ee ∙ renew-next _ (t .ended) (now .ended) false false i anew (ap (λ (x : State). x .ended) is) (ap (λ (b : Bool). choose b false (getD (t .ended) i false)) (sym ea))))
 
   placed : placeIn (now .periods) (now .cycle) (now .position) i ≡ place t i
-  unfolding renewed placeIn place offset currentOf periodOf
-  placed = rw is
+  unfolding renewed
+  placed = rw is (place-by-numbers t i)
 
   ended-still : getD (now .ended) i false ≡ getD (t .ended) i false
   unfolding renewed

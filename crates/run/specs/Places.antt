@@ -1,11 +1,15 @@
 -- How the jobs of a sound state lie in the log: every current job within it, no two jobs at one place.
 use mathlib.Core.Path.{_≡_, refl}
-use Prim.Native.Nat.{ℕ, suc, _+_, _*_, _/_, _≤_, _<_}
+use mathlib.Core.Bool.{true}
+use mathlib.Core.Logic.{_↔_}
+use Prim.Native.Nat.{ℕ, suc, _+_, _*_, _/_, _%_, _≤_, _<_}
 use native.Mathlib.Omega.{arith}
-use native.Mathlib.Nat.{div-lt-iff-lt-mul, div-mul-cancel, div-le-self}
+use native.Mathlib.Nat.{div-lt-iff-lt-mul, div-mul-cancel, div-le-self, div-add-mod'}
+use lib.Dec.{eqb}
+use borrow.Author.Tests.{eqb-true, eq-eqb}
 use Rattle.basis.specs.Sum.{sum, sum-le, sum-same, sum-grows, sum-apart}
 use Rattle.run.specs.declared.State.{State}
-use Rattle.run.specs.State.{periodOf, currentOf, offset, jobCount, place}
+use Rattle.run.specs.State.{periodOf, dueOf, currentOf, ageOf, offset, jobCount, place, placeIn, deadlineNext, releaseNext}
 use Rattle.run.specs.Sound.{SoundState}
 
 module _ (s : State) where
@@ -30,6 +34,28 @@ module _ (s : State) where
   pub jobs-apart : (i j k m : ℕ) → k < s .cycle / periodOf s i → m < s .cycle / periodOf s j → offset s i + k ≡ offset s j + m → (i ≡ j) × (k ≡ m)
   unfolding offset
   jobs-apart i j k m lk lm e = sum-apart (λ j. s .cycle / periodOf s j) i j k m lk lm e
+
+-- The place, worked out from the numbers of the state.
+pub place-by-numbers : (s : State) (i : ℕ) → placeIn (s .periods) (s .cycle) (s .position) i ≡ place s i
+unfolding placeIn place offset currentOf periodOf
+place-by-numbers s i = refl
+
+-- In the paper's words: there is a deadline of task i at the next position, its current job being released at current * period and
+-- due `dueOf` slices later; and there is its next release.
+module _ (s : State) (i : ℕ) where
+  next-tells : (due : ℕ) → (eqb (suc (s .position % periodOf s i)) due ≡ true) ↔ (suc (s .position) ≡ s .position / periodOf s i * periodOf s i + due)
+  next-tells due = (
+    λ h. omega (arith, eqb-true (suc (s .position % periodOf s i)) due h, div-add-mod' (s .position) (periodOf s i)),
+    λ e. eq-eqb (suc (s .position % periodOf s i)) due (omega (arith, div-add-mod' (s .position) (periodOf s i))),
+  )
+
+  pub deadline-next-tells : (deadlineNext s i ≡ true) ↔ (suc (s .position) ≡ currentOf s i * periodOf s i + dueOf s i)
+  unfolding deadlineNext currentOf ageOf
+  deadline-next-tells = next-tells (dueOf s i)
+
+  pub release-next-tells : (releaseNext s i ≡ true) ↔ (suc (s .position) ≡ currentOf s i * periodOf s i + periodOf s i)
+  unfolding releaseNext currentOf ageOf
+  release-next-tells = next-tells (periodOf s i)
 
 module _ (s : State) (S : SoundState s) where
   -- The job that is current in a slice of the cycle is one of the task's jobs in it.
