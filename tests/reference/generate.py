@@ -15,15 +15,24 @@ from model import CLOCK_ROUND, FILLING, LONGEST, NONE_NAMED, TABLE
 from model import Place, State, Task, bare, rounded_up
 
 SEED = 0x0B5E55ED51ACE5
+DRIVES_SEED = 0x0D21FE5EED5  # their own, so that what stands before them stays as it is
 STEPS_WANTED = 202000  # accepted steps in all
 
 # Record tags.
 END, LIST, TABLE_FILL, TABLE_BYTES, TABLE_BYTE, TABLE_LENT, BUILD = range(7)
 LOG_FILL, LOG_LENT, LOG_CHECK, START, STATE, STEP, CONVERSION = range(7, 14)
+ENTRY, REFUSAL, LOGGED, DRIVE = range(14, 18)
 
-MAGIC = b"SLICES01"
+# What the end record counts, in its order.
+COUNTED = {
+    "list": LIST, "build": BUILD, "start": START, "step": STEP, "conversion": CONVERSION,
+    "entry": ENTRY, "refusal": REFUSAL, "logged": LOGGED, "drive": DRIVE,
+}
+
+MAGIC = b"SLICES02"
 SHORT_LOG = 64  # a lent log up to this long is part of every step's checksum
 MOST_TABLE, MOST_LOG, MOST_LIST = 4200, 66000, 272
+MOST_NEEDS = 4200  # and ends
 TOP = CLOCK_ROUND - 1
 
 
@@ -196,9 +205,38 @@ class Cases:
         self.put(CONVERSION, "BIIBI", kind, microseconds, slice_length, refusal, slices)
         self.count("conversion", refusal)
 
+    def entry(self, byte, count):
+        self.put(ENTRY, "BQBI", byte, count, *model.read_entry(byte, count))
+        self.count("entry", model.read_entry(byte, count)[0])
+
+    def refusal(self, number):
+        self.put(REFUSAL, "IBI", number, *model.read_refusal(number))
+        self.count("refusal", model.read_refusal(number)[0])
+
+    def logged(self, byte):
+        self.put(LOGGED, "BBI", byte, *model.read_logged(byte))
+        self.count("logged", model.read_logged(byte)[0])
+
+    def drive(self, mode, clock, needs, length):
+        """A cycle of the list in hand, with so many ends."""
+        assert len(needs) <= MOST_NEEDS and length <= MOST_NEEDS
+        assert self.table_lent == len(self.table) and self.log_lent == len(self.log)
+        ends = [7] * length
+        built, begun, self.state = model.drive_lent(
+            self.tasks, self.supply, mode, clock, needs, self.table, self.log, ends
+        )
+        self.put(DRIVE, "BII%dII" % len(needs), mode, clock, len(needs), *needs, length)
+        self.out += struct.pack("<BBiIIBBiII", *built, *begun)
+        self.out += struct.pack("<I", checksum(self.state.to_bytes()))
+        self.out += self.table + self.log + struct.pack("<%dI" % length, *ends)
+        self.count("drive", begun.refusal)
+        self.counts["driven in mode", mode] += 1
+        self.counts["drive built", built.refusal] += 1
+        self.counts["whole drives"] += 0 < self.state.position == self.state.cycle
+        return ends
+
     def end(self):
-        totals = [self.counts[what] for what in ("list", "build", "start", "step", "conversion")]
-        self.put(END, "IIIII", *totals)
+        self.put(END, "I" * len(COUNTED), *(self.counts[what] for what in COUNTED))
 
 
 # Lists
@@ -751,6 +789,88 @@ def conversions(cases, dice):
                 cases.conversion(kind, microseconds, slice_length)
 
 
+# Readings
+
+
+def readings(cases):
+    """Every byte as an entry and as a log byte, every number of refusal and others like it."""
+    counts = list(range(18)) + [20, 255, 256, 257, 65536 + 5, 2 ** 32 + 5, 2 ** 64 - 1]
+    for count in counts:
+        for byte in range(256):
+            cases.entry(byte, count)
+    for high in (0, 2 ** 8, 2 ** 16, 2 ** 31, 2 ** 32 - 32):
+        for low in range(32):
+            cases.refusal(high + low)
+    for byte in range(256):
+        cases.logged(byte)
+
+
+# Drives
+
+
+def drive(cases, dice, mode, table_length, log_length, needs, length):
+    cases.table_fill(table_length, dice.below(256))
+    cases.log_fill(log_length, dice.below(256))
+    return cases.drive(mode, some_clock(dice, table_length), needs, length)
+
+
+def whole_drive(cases, dice, mode, answer, needs):
+    """Long enough in everything, and compared with the ends worked without states and steps."""
+    spare = dice.pick([0, 0, 1, 7])
+    flat = [need for row in needs for need in row] + [1] * dice.below(3)
+    length = answer.jobs + dice.pick([0, 0, spare])
+    ends = drive(cases, dice, mode, answer.cycle + spare, answer.jobs + spare, flat, length)
+    no_memory = tuple(task._replace(memory=0) for task in cases.tasks)
+    by_jobs = model.ends_by_jobs(no_memory, mode, needs)
+    assert ends[: answer.jobs] == [end for row in by_jobs for end in row]
+    assert list(cases.log[: answer.jobs]) == model.expected_log(cases.tasks, needs)
+
+
+def odd_drive(cases, dice, mode, answer, needs):
+    """Lent something short, or with needs that are 0 or missing, or fewer ends than jobs."""
+    flat = [need for row in needs for need in row]
+    table_length, log_length, length = answer.cycle, answer.jobs + dice.below(3), answer.jobs
+    kind = dice.below(5)
+    if kind == 0:
+        table_length = dice.below(answer.cycle)
+    elif kind == 1:
+        log_length = dice.below(answer.jobs)
+    elif kind == 2:
+        flat = [dice.pick([0, need, TOP]) for need in flat]
+    elif kind == 3:
+        flat = flat[: dice.below(len(flat))]
+    else:
+        length = dice.below(answer.jobs)
+    drive(cases, dice, mode, table_length, log_length, flat, length)
+
+
+def drives(cases, dice):
+    """Cycles driven by a caller: accepted lists in each mode, refused lists, short tables and logs."""
+    modes = (TABLE, FILLING, NONE_NAMED)
+    for tasks, answer, _ in model.WORKED:
+        cases.list(tasks, 0)
+        for mode in modes:
+            if answer.refusal:
+                drive(cases, dice, mode, dice.below(20), dice.below(20), [1, 2], dice.below(9))
+            elif answer.cycle < 100:
+                whole_drive(cases, dice, mode, answer, some_needs(dice, tasks, answer.cycle))
+            if tasks == model.LIST_A:
+                whole_drive(cases, dice, mode, answer, [[1, 1, 1], [1, 5], [3]])
+    while cases.counts["drive"] < 300:
+        tasks = random_tasks(dice, dice.pick(SMALL), dice.between(1, 16), dice.between(40, 110))
+        tasks, supply = with_memory(dice, tasks)
+        answer = cases.list(tasks, supply)
+        if answer.refusal:
+            drive(cases, dice, dice.below(3), dice.below(100), dice.below(100), [], dice.below(9))
+            continue
+        for mode in dice.shuffled(modes)[:2]:
+            whole_drive(cases, dice, mode, answer, some_needs(dice, tasks, answer.cycle))
+            odd_drive(cases, dice, mode, answer, some_needs(dice, tasks, answer.cycle))
+    for tasks, mode in full_size_lists(dice):
+        answer = cases.list(tasks, 16)
+        whole_drive(cases, dice, mode, answer, some_needs(dice, tasks, answer.cycle))
+
+
 def all_cases():
     dice, cases = Dice(SEED), Cases()
     conversions(cases, dice)
@@ -777,6 +897,8 @@ def all_cases():
         if model.verdict(tasks, supply).refusal == 0:
             answer = list_and_builds(cases, dice, tasks, supply)
             run_in_modes(cases, dice, answer.cycle, tables)
+    readings(cases)
+    drives(cases, Dice(DRIVES_SEED))
     cases.end()
     assert all_there(cases)
     return cases
@@ -788,15 +910,19 @@ def all_there(cases):
         ("list", range(8)), ("build", range(9)), ("start", (0, 1, 2, 3, 4, 5, 6, 7, 12)),
         ("step", (0, 9, 10, 11, 12, 13, 14)), ("conversion", (0, 17)), ("log byte", (1, 2, 3)),
         ("started in mode", (TABLE, FILLING, NONE_NAMED)), ("accepted in mode", (TABLE, FILLING)),
+        ("entry", range(3)), ("refusal", range(7)), ("logged", range(5)),
+        ("drive", (0, 3, 4, 5, 6, 7, 12)), ("drive built", (0, 8)),
+        ("driven in mode", (TABLE, FILLING, NONE_NAMED)),
     ):
         for refusal in refusals:
             assert cases.counts[what, refusal], (what, refusal)
+    assert cases.counts["whole drives"] >= 100
     return cases.counts["list"] >= 2000 and cases.counts["step"] >= 200000
 
 
 def report(cases):
     print("%d bytes" % len(cases.out))
-    for what in ("list", "build", "start", "step", "conversion"):
+    for what in ("list", "build", "start", "step", "conversion", "drive"):
         parts = ["%d: %d" % (r, cases.counts[what, r]) for r in range(18) if cases.counts[what, r]]
         print("%s: %d, by refusal (0 accepted) %s" % (what, cases.counts[what], ", ".join(parts)))
     who_parts = ["%d: %d" % (r, cases.counts["who", r]) for r in (0, 9, 10, 11)]
@@ -808,6 +934,9 @@ def report(cases):
     print("log bytes written: done %d, over %d, late %d" % tuple(
         cases.counts["log byte", byte] for byte in (1, 2, 3)))
     print("states handed in %d, log checks %d" % (cases.counts["state"], cases.counts["log check"]))
+    print("read: entries %d, refusals %d, log bytes %d" % tuple(
+        cases.counts[what] for what in ("entry", "refusal", "logged")))
+    print("drives to the cycle's end: %d" % cases.counts["whole drives"])
 
 
 def main(arguments):

@@ -15,7 +15,8 @@ from generate import checksum, pattern
 
 NAMES = (
     "end", "list", "table fill", "table bytes", "table byte", "table lent", "build", "log fill",
-    "log lent", "log check", "start", "state", "step", "conversion",
+    "log lent", "log check", "start", "state", "step", "conversion", "entry", "refusal", "logged",
+    "drive",
 )
 
 
@@ -28,7 +29,7 @@ class Replay:
         self.table, self.table_lent = bytearray(), 0
         self.log, self.log_lent = bytearray(), 0
         self.state = model.State()
-        self.totals = [0] * 14
+        self.totals = [0] * len(NAMES)
         if file.read(8) != generate.MAGIC:
             raise SystemExit("not a case file")
 
@@ -50,8 +51,8 @@ class Replay:
         return tag, given
 
     def read_end(self):
-        order = (generate.LIST, generate.BUILD, generate.START, generate.STEP, generate.CONVERSION)
-        self.compare(self.take("IIIII"), tuple(self.totals[tag] for tag in order))
+        totals = tuple(self.totals[tag] for tag in generate.COUNTED.values())
+        self.compare(self.take("I" * len(totals)), totals)
 
     def read_list(self):
         self.supply, count = self.take("II")
@@ -126,6 +127,36 @@ class Replay:
         convert = (model.runtime_in_slices, model.period_in_slices)[kind]
         self.compare(self.take("BI"), convert(microseconds, slice_length))
         return kind, microseconds, slice_length
+
+    def read_entry(self):
+        byte, count = self.take("BQ")
+        self.compare(self.take("BI"), model.read_entry(byte, count))
+        return byte, count
+
+    def read_refusal(self):
+        number, = self.take("I")
+        self.compare(self.take("BI"), model.read_refusal(number))
+        return number
+
+    def read_logged(self):
+        byte, = self.take("B")
+        self.compare(self.take("BI"), model.read_logged(byte))
+        return byte
+
+    def read_drive(self):
+        mode, clock, count = self.take("BII")
+        needs = self.take("%dI" % count)
+        ends = [1] * self.take("I")[0]
+        built, begun, self.state = model.drive_lent(
+            self.tasks, self.supply, mode, clock, needs, self.table, self.log, ends
+        )
+        self.compare(self.take("BBiII"), tuple(built))
+        self.compare(self.take("BBiII"), tuple(begun))
+        self.compare(self.take("I"), (checksum(self.state.to_bytes()),))
+        self.compare(self.file.read(len(self.table)), bytes(self.table))
+        self.compare(self.file.read(len(self.log)), bytes(self.log))
+        self.compare(self.take("%dI" % len(ends)), tuple(ends))
+        return mode, clock, needs
 
 
 def show(replay, tag, given, state):

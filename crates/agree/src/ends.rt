@@ -1,7 +1,8 @@
 // The end record: the counts, and nothing after it.
 use crate::Hand;
-use cases::taken;
+use crate::taken;
 use cases::told;
+use libc::STDOUT_FILENO;
 
 fn count_agrees(number: u32, found: u32) -> bool {
     told::agrees(number, b"count", taken::word(), found)
@@ -14,13 +15,17 @@ fn last_agrees(number: u32, found: u32) -> bool {
     count & formed
 }
 
-fn counts_agree(number: u32, counts: [u32; 14]) -> bool {
+fn counts_agree(number: u32, counts: [u32; 18]) -> bool {
     let lists = count_agrees(number, counts[1]);
     let builds = count_agrees(number, counts[6]);
     let starts = count_agrees(number, counts[10]);
     let steps = count_agrees(number, counts[12]);
-    let conversions = last_agrees(number, counts[13]);
-    lists & builds & starts & steps & conversions
+    let conversions = count_agrees(number, counts[13]);
+    let entries = count_agrees(number, counts[14]);
+    let refusals = count_agrees(number, counts[15]);
+    let logged = count_agrees(number, counts[16]);
+    let drives = last_agrees(number, counts[17]);
+    lists & builds & starts & steps & conversions & entries & refusals & logged & drives
 }
 
 pub(crate) fn end(hand: Hand) -> Hand {
@@ -30,4 +35,21 @@ pub(crate) fn end(hand: Hand) -> Hand {
     after.open = false;
     after.agreed = agrees;
     after
+}
+
+fn counted(count: u32, what: &[u8]) {
+    io::print_decimal(STDOUT_FILENO, count as u64);
+    io::write_all(STDOUT_FILENO, what);
+}
+
+pub(crate) fn summary(counts: [u32; 18]) {
+    counted(counts[1], b" lists, ");
+    counted(counts[6], b" builds, ");
+    counted(counts[10], b" starts, ");
+    counted(counts[12], b" steps, ");
+    counted(counts[13], b" conversions, ");
+    counted(counts[14], b" entries, ");
+    counted(counts[15], b" refusals and ");
+    counted(counts[16], b" log bytes read, ");
+    counted(counts[17], b" drives: all agree\n");
 }

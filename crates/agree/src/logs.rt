@@ -1,30 +1,29 @@
-// Records of the log and of starts.
+// Records of the log and of starts. The log is held twice: as the library leaves it, and as it should be.
 use crate::Hand;
 use crate::parts;
+use crate::taken;
+use cases::Answer;
 use cases::compared;
-use cases::taken;
 use cases::told;
-use run::State;
 use start::Asked;
+use start::Started;
 
 // So many bytes are held, and all are lent.
-fn holding(hand: Hand, length: usize) -> Hand {
+fn holding(hand: Hand, length: usize, formed: bool) -> Hand {
     let mut after = hand;
     after.log_held = length;
     after.log_lent = length;
-    after
+    crate::open_if_formed(after, formed)
 }
 
-pub(crate) fn fill(hand: Hand, log: &mut [u8]) -> Hand {
+pub(crate) fn fill(hand: Hand, log: &mut [u8], second: &mut [u8]) -> Hand {
     let length = taken::size();
     let first = taken::byte();
-    if 66000 < length {
-        return crate::open_if_formed(hand, false);
-    }
     let count = parts::within(length, log);
     parts::pattern(&mut log[..count], first);
-    parts::mirror(log, length);
-    holding(hand, length)
+    let room = parts::within(length, second);
+    parts::pattern(&mut second[..room], first);
+    holding(hand, count, count == length)
 }
 
 pub(crate) fn lent(hand: Hand) -> Hand {
@@ -41,7 +40,7 @@ pub(crate) fn check(hand: Hand, log: &[u8]) -> Hand {
     crate::open_if(hand, told::agrees(hand.number, b"log", sum, found))
 }
 
-fn asked_of(mode: u8) -> Asked {
+pub(crate) fn asked_of(mode: u8) -> Asked {
     match mode {
         0 => Asked::Table,
         1 => Asked::Filling,
@@ -49,37 +48,42 @@ fn asked_of(mode: u8) -> Asked {
     }
 }
 
-fn sums_agree(number: u32, state: State, log: &[u8]) -> bool {
-    let first = taken::word();
-    let of_state = told::agrees(number, b"state", first, checksum::of_state(state));
-    let second = taken::word();
-    let of_log = told::agrees(number, b"log", second, checksum::of_bytes(log));
-    of_state & of_log
+// The answer and the state of a start.
+fn begun_agrees(hand: Hand, expected: Answer, sum: u32, found: Started) -> bool {
+    let begun = found.answer;
+    let state = found.state;
+    let answer = compared::start_answer_of(begun, hand.verdict);
+    let same = told::answer_agrees(hand.number, expected, answer);
+    let summed = told::agrees(hand.number, b"state", sum, checksum::of_state(state));
+    same & summed
 }
 
-fn started(hand: Hand, mode: u8, clock: u32, log: &mut [u8]) -> Hand {
-    let next = start::start(hand.list, hand.supply, asked_of(mode), clock, log);
-    let begun = next.answer;
-    let state = next.state;
-    let found = compared::start_answer_of(begun, hand.verdict);
+// A start of the list by value, and with the second log one of the list lent as a run of records.
+fn started(hand: Hand, mode: u8, clock: u32, log: &mut [u8], second: &mut [u8]) -> Hand {
     let expected = taken::take_answer();
-    let answer = told::answer_agrees(hand.number, expected, found);
-    let sums = sums_agree(hand.number, state, log);
+    let sum = taken::word();
+    let next = start::start(hand.list, hand.supply, asked_of(mode), clock, log);
+    let start = begun_agrees(hand, expected, sum, next);
+    let of_log = taken::word();
+    let logged = told::agrees(hand.number, b"log", of_log, checksum::of_bytes(log));
+    let other = lent::start_list(hand.list, hand.supply, asked_of(mode), clock, second);
+    let same = begun_agrees(hand, expected, sum, other) & check::same(log, second);
+    let start_list = told::holds(hand.number, b"start_list", same);
+    let state = next.state;
     let mut after = hand;
     after.state = state;
-    after.open = answer & sums;
+    after.open = start & logged & start_list;
     after
 }
 
-// Once its checksum agrees, the log is as it should be.
-pub(crate) fn start(hand: Hand, log: &mut [u8]) -> Hand {
+// With all bytes that are held.
+pub(crate) fn start(hand: Hand, log: &mut [u8], second: &mut [u8]) -> Hand {
     let mode = taken::byte();
     let clock = taken::word();
     if 2 < mode {
         return crate::open_if_formed(hand, false);
     }
     let count = parts::within(hand.log_held, log);
-    let after = started(hand, mode, clock, &mut log[..count]);
-    parts::mirror(log, hand.log_held);
-    after
+    let room = parts::within(hand.log_held, second);
+    started(hand, mode, clock, &mut log[..count], &mut second[..room])
 }

@@ -1,14 +1,16 @@
 // Reads the file of reference cases from standard input (tests/reference/FORMAT.md) and compares every answer of the library
 // with it. It says that all agree, with the counts of the calls, or which record does not.
+mod taken; // numbers, lists and states from standard input
 mod parts; // bytes of a table or a log
 mod lists; // records of lists and conversions
+mod reads; // records of readings
 mod tables; // records of the table
 mod logs; // records of the log and of starts
 mod steps; // records of states and steps
+mod drives; // records of drives
 mod ends; // the end record
 
 use cases::Answer;
-use cases::taken;
 use cases::told;
 use run::Mode;
 use run::State;
@@ -26,7 +28,7 @@ struct Hand {
     table_lent: usize,
     log_held: usize,
     log_lent: usize,
-    counts: [u32; 14],
+    counts: [u32; 18],
     number: u32,
     open: bool,
     agreed: bool,
@@ -66,7 +68,7 @@ fn empty() -> Hand {
         table_lent: 0,
         log_held: 0,
         log_lent: 0,
-        counts: [0; 14],
+        counts: [0; 18],
         number: 0,
         open: true,
         agreed: false,
@@ -95,12 +97,12 @@ fn on_table(hand: Hand, tag: u8, table: &mut [u8]) -> Hand {
     }
 }
 
-fn on_log(hand: Hand, tag: u8, log: &mut [u8]) -> Hand {
+fn on_log(hand: Hand, tag: u8, log: &mut [u8], second: &mut [u8]) -> Hand {
     match tag {
-        7 => logs::fill(hand, log),
+        7 => logs::fill(hand, log, second),
         8 => logs::lent(hand),
         9 => logs::check(hand, log),
-        _ => logs::start(hand, log),
+        _ => logs::start(hand, log, second),
     }
 }
 
@@ -110,22 +112,26 @@ fn on_rest(hand: Hand, tag: u8) -> Hand {
         1 => lists::list(hand),
         11 => steps::state(hand),
         13 => lists::conversion(hand),
+        14 => reads::entry(hand),
+        15 => reads::refusal(hand),
+        16 => reads::logged(hand),
         _ => open_if_formed(hand, false),
     }
 }
 
-fn by_tag(hand: Hand, tag: u8, table: &mut [u8], log: &mut [u8]) -> Hand {
+fn by_tag(hand: Hand, tag: u8, table: &mut [u8], log: &mut [u8], second: &mut [u8]) -> Hand {
     match tag {
         2..=6 => on_table(hand, tag, table),
-        7..=10 => on_log(hand, tag, log),
-        12 => steps::step(hand, table, log),
+        7..=10 => on_log(hand, tag, log, second),
+        12 => steps::step(hand, table, log, second),
+        17 => drives::drive(hand, table, log, second),
         _ => on_rest(hand, tag),
     }
 }
 
-fn counted(counts: [u32; 14], tag: u8) -> [u32; 14] {
+fn counted(counts: [u32; 18], tag: u8) -> [u32; 18] {
     let at = tag as usize;
-    if 14 <= at {
+    if 18 <= at {
         return counts;
     }
     let mut after = counts;
@@ -143,25 +149,26 @@ fn with_record(hand: Hand, number: u32, tag: u8) -> Hand {
 }
 
 // Record after record.
-fn replay(table: &mut [u8], log: &mut [u8]) -> Hand {
+fn replay(table: &mut [u8], log: &mut [u8], second: &mut [u8]) -> Hand {
     let mut hand = open_if_formed(empty(), taken::take_magic());
     let mut number: u32 = 0;
     while number < 4294967295 && hand.open {
         number += 1;
         let tag = taken::take_tag();
-        let next = by_tag(with_record(hand, number, tag), tag, table, log);
+        let next = by_tag(with_record(hand, number, tag), tag, table, log, second);
         hand = next;
     }
     hand
 }
 
-// The log is held twice: as the library leaves it, and from byte 66,000 on as it should be.
+// The log is held twice: as the library leaves it, and as it should be.
 fn main() {
     let mut table = [0u8; 4200];
-    let mut log = [0u8; 132000];
-    let hand = replay(&mut table, &mut log);
+    let mut log = [0u8; 66000];
+    let mut second = [0u8; 66000];
+    let hand = replay(&mut table, &mut log, &mut second);
     let counts = hand.counts;
     if hand.agreed {
-        told::summary(counts);
+        ends::summary(counts);
     }
 }

@@ -1,4 +1,4 @@
-// Bytes of a table or a log. The log is held twice: as the library leaves it, and from byte 66,000 on as it should be.
+// Bytes of a table or a log.
 ghost use Rattle.io.specs.Counts.{Counts};
 
 // So many of the bytes, or all.
@@ -32,36 +32,19 @@ pub(crate) fn put(bytes: &mut [u8], place: usize, byte: u8) -> bool {
     false
 }
 
-fn byte_at(bytes: &[u8], place: usize) -> u8 {
-    if place < bytes.len() { bytes[place] } else { 0 }
-}
-
-fn second(place: usize) -> usize {
-    if place < 66000 { place + 66000 } else { 0 }
-}
-
-// The log is as it should be.
-pub(crate) fn mirror(log: &mut [u8], count: usize) {
-    let mut i = 0;
-    while i < count {
-        put(log, second(i), byte_at(log, i));
-        i += 1;
+// The same, and that another byte stood there.
+pub(crate) fn change(bytes: &mut [u8], place: usize, byte: u8) -> bool {
+    if place < bytes.len() {
+        let other = bytes[place] != byte;
+        bytes[place] = byte;
+        return other;
     }
+    false
 }
 
-// Whether the first bytes of the log are as they should be.
-pub(crate) fn is_mirrored(log: &[u8], count: usize) -> bool {
-    let mut same = true;
-    let mut i = 0;
-    while i < count {
-        same = same & (byte_at(log, i) == byte_at(log, second(i)));
-        i += 1;
+// The first bytes are copied, if there is room for them.
+pub(crate) fn copied(from: &[u8], to: &mut [u8]) {
+    if from.len() <= to.len() {
+        bytes::copy(from, to);
     }
-    same
-}
-
-// From here on another byte should stand at a place of the log.
-pub(crate) fn change(log: &mut [u8], place: usize, byte: u8) -> bool {
-    let before = byte_at(log, second(place));
-    put(log, second(place), byte) & (before != byte)
 }

@@ -1,8 +1,8 @@
 // Records of the table.
 use crate::Hand;
 use crate::parts;
+use crate::taken;
 use cases::compared;
-use cases::taken;
 use cases::told;
 use libc::STDIN_FILENO;
 
@@ -43,17 +43,26 @@ pub(crate) fn lent(hand: Hand) -> Hand {
     crate::open_if_formed(after, length <= hand.table_held)
 }
 
-fn built(hand: Hand, table: &mut [u8]) -> bool {
-    let found = compared::answer_of(verdict::build(hand.list, hand.supply, table));
+// The table of the list by value, and in the second bytes that of the list lent as a run of records.
+fn built(hand: Hand, table: &mut [u8], second: &mut [u8]) -> bool {
     let expected = taken::take_answer();
-    let answer = told::answer_agrees(hand.number, expected, found);
+    let found = compared::answer_of(verdict::build(hand.list, hand.supply, table));
+    let build = told::answer_agrees(hand.number, expected, found);
     let sum = taken::word();
-    let bytes = told::agrees(hand.number, b"table", sum, checksum::of_bytes(table));
-    answer & bytes
+    let entries = told::agrees(hand.number, b"table", sum, checksum::of_bytes(table));
+    let lent = compared::answer_of(lent::build_list(hand.list, hand.supply, second));
+    let answer = told::answer_agrees(hand.number, expected, lent);
+    let same = answer & check::same(table, second);
+    let build_list = told::holds(hand.number, b"build_list", same);
+    build & entries & build_list
 }
 
-// Into all bytes that are held.
+// Into all bytes that are held, twice.
 pub(crate) fn build(hand: Hand, table: &mut [u8]) -> Hand {
     let count = parts::within(hand.table_held, table);
-    crate::open_if(hand, built(hand, &mut table[..count]))
+    let mut bytes = [0u8; 4200];
+    let room = parts::within(count, &bytes);
+    let second = &mut bytes[..room];
+    parts::copied(&table[..count], second);
+    crate::open_if(hand, built(hand, &mut table[..count], second))
 }

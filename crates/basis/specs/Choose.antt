@@ -29,6 +29,12 @@ unfolding choose
 choose-either Q true x y p q = p
 choose-either Q false x y p q = q
 
+-- what is made of the one chosen
+pub of-choice : {A B : Type 0} (f : A → B) (b : Bool) (x y : A) → f (choose b x y) ≡ choose b (f x) (f y)
+unfolding choose
+of-choice f true x y = refl
+of-choice f false x y = refl
+
 -- the same laws as a return of a branch asks them
 pub yes-so : {A : Type 0} (b : Bool) (r x y : A) → b ≡ true → r ≡ x → r ≡ choose b x y
 yes-so b r x y h e = e ∙ sym (choose-yes b x y h)
@@ -55,6 +61,20 @@ pub either-false : (a b : Bool) → ((a || b) ≡ false) ↔ ((a ≡ false) × (
 either-false true b = (λ e. absurd (true≢false e), λ h. h .0)
 either-false false b = (λ e. (refl, e), λ h. h .1)
 
+-- ---- x is from low to high, both included
+unfoldable pub within : ℕ → ℕ → ℕ → Bool
+within low high x = leb low x && leb x high
+
+module _ (low high x : ℕ) where
+  pub within-tells : within low high x ≡ true → (low ≤ x) × (x ≤ high)
+  unfolding within
+  within-tells e = let h = both-true (leb low x) (leb x high) .0 e in (leb-true low x (h .0), leb-true x high (h .1))
+
+  pub is-within : low ≤ x → x ≤ high → within low high x ≡ true
+  unfolding within
+  is-within l h = both-true (leb low x) (leb x high) .1 (le-leb low x l, le-leb x high h)
+
+-- ---- orders and equations decided
 pub le-or-lt : (a b : ℕ) → (a ≤ b) ⊎ (b < a)
 le-or-lt a b = ⊎-elim (λ h. inl (leb-true a b h)) (λ h. inr (leb-false a b h)) (bool-cases (leb a b))
 

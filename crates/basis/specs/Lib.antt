@@ -5,3 +5,5 @@ pub mod Slices
 pub mod Least
 pub mod Bytes
 pub mod Signed
+pub mod Answer
+pub mod Rules

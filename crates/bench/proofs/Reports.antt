@@ -14,7 +14,7 @@ use Rattle.run.specs.declared.Runner.the-variants.{Task}
 use Rattle.run.specs.State.{currentOf, jobOf, place, placeIn}
 use Rattle.run.specs.Sound.{SoundState}
 use Rattle.run.specs.Places.{place-by-numbers}
-use Rattle.run.specs.Who.{running, whoRefusal, ofEntry, answered, whoOf, whoNumbers}
+use Rattle.run.specs.Who.{running, whoRefusal, ofEntry, answered, whoOf, runnerAnswer}
 use Rattle.run.specs.Accepted.{who-accepted, running-to}
 use Rattle.bench.specs.Course.{reportOf, reportIn, needIn}
 
@@ -62,6 +62,6 @@ module _ (s : State) (table : List ℕ) (r : Runner) (told : r ≡ whoOf s table
       (A .is-sound, omega (arith, h .1, running-to s table A))
 
   module _ (need : Demand) where
-    pub told-reports : (n report : ℕ) → whoNumbers r .task ≡ n → report ≡ reportOf need s n → report ≡ reportIn table need s
+    pub told-reports : (n report : ℕ) → runnerAnswer r .task ≡ n → report ≡ reportOf need s n → report ≡ reportIn table need s
     unfolding reportIn
-    told-reports n report e er = er ∙ ap (reportOf need s) (sym e ∙ ap (λ (x : Runner). whoNumbers x .task) told)
+    told-reports n report e er = er ∙ ap (reportOf need s) (sym e ∙ ap (λ (x : Runner). runnerAnswer x .task) told)

@@ -13,7 +13,7 @@ use Rattle.run.specs.declared.Closed.{Closed}
 use Rattle.run.specs.declared.Closed.the-variants.{Accepted, Refused}
 use Rattle.run.specs.declared.Next.{Next}
 use Rattle.run.specs.State.{currentOf, jobOf, offset}
-use Rattle.run.specs.Who.{running, whoOf, whoNumbers}
+use Rattle.run.specs.Who.{running, whoOf, runnerAnswer}
 use Rattle.run.specs.Step.{nextClock, stepRefusal, stateAfter, logAfter, answerOf, nextState, nextLog, Stepped}
 
 -- The state, the log, and for each job the position at which it was logged, 0 while it was not.
@@ -30,7 +30,7 @@ reportOf need s (suc i) = choose (eqb (jobOf s i .used + 1) (need i (currentOf s
 
 -- The one who reports is the one who runs.
 unfoldable pub reportIn : List ℕ → Demand → State → ℕ
-reportIn table need s = reportOf need s (whoNumbers (whoOf s table) .task)
+reportIn table need s = reportOf need s (runnerAnswer (whoOf s table) .task)
 
 -- Needs may be lent as a list that stands as the log does: all jobs of task 1, then all of task 2, and so on.
 unfoldable pub needIn : List ℕ → State → Demand

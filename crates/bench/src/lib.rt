@@ -3,7 +3,7 @@ ghost use mathlib.Core.Path.{_≡_};
 ghost use Prim.Native.Nat.{_≤_, _<_};
 ghost use lib.ListN.{length, getD};
 ghost use Rattle.basis.specs.Bytes.{overwrite};
-ghost use Rattle.units.specs.Conversion.{paper};
+ghost use Rattle.units.specs.Conversion.{slicesOf};
 ghost use Rattle.run.specs.Sound.{SoundState};
 ghost use Rattle.bench.specs.Course.{reportOf, reportIn, needIn, endOf, noted, SliceClosed, courseAt};
 ghost use Rattle.bench.specs.Drive.{taskIn, Drives};
@@ -28,7 +28,7 @@ pub struct Driven {
 
 // A refused conversion answers 0.
 fn slices_or_zero(slices: Slices) -> u32
-    ensures { λ r. ⌜ r ≡ paper slices .slices ⌝ }
+    ensures { λ r. ⌜ r ≡ slicesOf slices ⌝ }
 {
     match slices {
         Slices::Count(count) => count,

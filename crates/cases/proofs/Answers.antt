@@ -11,7 +11,7 @@ use borrow.Author.Tests.{eq-eqb, eqb-true}
 use Rattle.basis.specs.Choose.{both-true}
 use Rattle.verdict.specs.declared.Verdict.{Verdict}
 use Rattle.verdict.specs.declared.Verdict.the-variants as verdict
-use Rattle.verdict.specs.Verdict.{numbers}
+use Rattle.verdict.specs.Verdict.{verdictAnswer}
 use Rattle.start.specs.declared.Begun.{Begun}
 use Rattle.start.specs.declared.Begun.the-variants as begun
 use Rattle.cases.specs.declared.Answer.{Answer}
@@ -20,12 +20,12 @@ use Rattle.cases.specs.File.{answerOf, startAnswerOf}
 module _ (v : Verdict) (task : ℕ) (margin said : ℤ) (same : said ≡ margin) where
   pub accepted-answer : (cycle jobs : ℕ) → v ≡ verdict.Accepted cycle jobs task margin
       → _≡_ {A = Answer} (record { refusal = 0; task = task; margin = said; cycle = cycle; jobs = jobs }) (answerOf v)
-  unfolding answerOf numbers
+  unfolding answerOf verdictAnswer
   accepted-answer cycle jobs e = cc
 
   pub refused-answer : (number : ℕ) → v ≡ verdict.Refused number task margin
       → _≡_ {A = Answer} (record { refusal = number; task = task; margin = said; cycle = 0; jobs = 0 }) (answerOf v)
-  unfolding answerOf numbers
+  unfolding answerOf verdictAnswer
   refused-answer number e = cc
 
 module _ (b : Begun) (v : Answer) where

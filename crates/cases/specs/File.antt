@@ -1,17 +1,17 @@
 -- Answers of the library in the numbers of the file of reference cases.
 use Rattle.verdict.specs.declared.Verdict.{Verdict}
-use Rattle.verdict.specs.Verdict.{numbers}
+use Rattle.verdict.specs.Verdict.{verdictAnswer}
 use Rattle.start.specs.declared.Begun.{Begun}
 use Rattle.start.specs.declared.Begun.the-variants.{Accepted, Refused}
 use Rattle.cases.specs.declared.Answer.{Answer}
 
 unfoldable pub answerOf : Verdict → Answer
 answerOf v = record {
-  refusal = numbers v .number;
-  task = numbers v .task;
-  margin = numbers v .signed;
-  cycle = numbers v .cycle;
-  jobs = numbers v .jobs;
+  refusal = verdictAnswer v .number;
+  task = verdictAnswer v .task;
+  margin = verdictAnswer v .margin;
+  cycle = verdictAnswer v .cycle;
+  jobs = verdictAnswer v .jobs;
 }
 
 -- An accepted start answers nothing beside the state; the verdict on the list stands for it.

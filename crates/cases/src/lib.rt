@@ -1,8 +1,6 @@
-// What a reader of the file of reference cases needs: its numbers, taken from standard input, and what it says on standard
-// output.
-pub mod taken; // numbers, lists and states
-pub mod told; // what disagrees, or that all agree
-pub mod compared; // answers of the library beside those of the file
+// Answers in the numbers of the file of reference cases, and what is said on standard output where two disagree.
+pub mod told; // what disagrees
+pub mod compared; // answers of the library in the file's numbers
 
 // An answer in the file's numbers. Refusal 0 is acceptance.
 pub struct Answer {

@@ -1,4 +1,4 @@
-// What the program says: the first record that disagrees and what disagreed, or how many calls agree.
+// What is said of a record that disagrees: its number, and what was expected and found.
 ghost use mathlib.Core.Path.{_≡_};
 ghost use mathlib.Core.Bool.{true};
 ghost use lib.Dec.{eqb};
@@ -83,17 +83,4 @@ pub fn answer_agrees(number: u32, expected: Answer, found: Answer) -> bool
     let cycle = agrees(number, b"cycle", expected.cycle, found.cycle);
     let jobs = agrees(number, b"jobs", expected.jobs, found.jobs);
     refusal & task & margin & cycle & jobs
-}
-
-fn counted(count: u32, what: &[u8]) {
-    decimal(count as u64);
-    text(what);
-}
-
-pub fn summary(counts: [u32; 14]) {
-    counted(counts[1], b" lists, ");
-    counted(counts[6], b" builds, ");
-    counted(counts[10], b" starts, ");
-    counted(counts[12], b" steps, ");
-    counted(counts[13], b" conversions: all agree\n");
 }

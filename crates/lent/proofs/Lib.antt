@@ -1,6 +1,5 @@
 -- What the walks by hand share.
-pub mod Parameters
+pub mod Walking
 pub mod Records
-pub mod Calling
 pub mod Copying
 pub mod Lending

@@ -12,17 +12,17 @@ use Rattle.basis.specs.Bytes.{overwrite, overwrite-same}
 use Rattle.basis.specs.Choose.{choose, choose-either}
 use Rattle.basis.specs.Least.{least}
 use Rattle.basis.specs.Sum.{sum-ext}
+use Rattle.basis.specs.Answer.{Answer, refusal, none, _orElse_, firstFound}
 use Rattle.plan.specs.Plan.{Plan, job, age, keyIn, wants, pick, gets, had, entry, table, given, first, ranksBefore, IsFirst, NoneWants, FirstTask}
 use Rattle.plan.specs.Rank.{first-law, first-ext}
 use Rattle.plan.specs.Run.{had-first, had-next}
 use Rattle.tasks.specs.declared.Task.{Task}
 use Rattle.tasks.specs.declared.TaskList.{TaskList}
-use Rattle.tasks.specs.declared.Finding.{Finding}
 use Rattle.tasks.specs.declared.Bounds.{Bounds}
 use Rattle.tasks.specs.declared.Bounds.the-variants.{Kept, Broken}
 use Rattle.tasks.specs.List.{taskAt, planOf}
 use Rattle.tasks.specs.Euclid.{lcmOf}
-use Rattle.tasks.specs.Bounds.{multiple, memorySum, jobSum, cycleOf, jobsOf, refusal, none, _orElse_, firstFound, ofCount, ofNumbers, ofTask, ofMemory, ofCycle, found, answer, boundsOf}
+use Rattle.tasks.specs.Bounds.{multiple, memorySum, jobSum, cycleOf, jobsOf, ofCount, ofNumbers, ofTask, ofMemory, ofCycle, found, answer, boundsOf}
 use Rattle.tasks.specs.Kept.{kept-tells}
 use Rattle.verdict.specs.declared.Late.{Late}
 use Rattle.verdict.specs.declared.Verdict.the-variants.{Accepted, Refused}
@@ -48,7 +48,7 @@ tightest-below P (suc zero) p = choose-either (λ (x : ℕ). x < 1) _ 0 0 p p
 tightest-below P (suc (suc n)) p =
     choose-either (λ (x : ℕ). x < suc (suc n)) _ (suc n) (tightest P (suc n)) (omega arith) (omega (arith, tightest-below P (suc n) (omega arith)))
 
-first-found-same : (f g : ℕ → Finding) (n : ℕ) → ((i : ℕ) → i < n → f i ≡ g i) → firstFound f n ≡ firstFound g n
+first-found-same : (f g : ℕ → Answer) (n : ℕ) → ((i : ℕ) → i < n → f i ≡ g i) → firstFound f n ≡ firstFound g n
 unfolding firstFound
 first-found-same f g zero h = refl
 first-found-same f g (suc n) h = λ j. first-found-same f g n (λ i l. h i (omega arith)) j orElse h n (omega arith) j
@@ -92,22 +92,14 @@ module _ (ts us : List Task) (n : ℕ) (same : (i : ℕ) → i < n → taskAt ts
   unfolding entry
   entry-same t = pick-same t (had P (P .runtime) t) (had Q (Q .runtime) t) (had-same t)
 
-  table-same : (t : ℕ) → table P t ≡ table Q t
-  unfolding table
-  table-same = entry-same
-
   -- ---- lateness
   missing-same : (t i : ℕ) → i < n → missing P t i ≡ missing Q t i
-  unfolding missing received age job planOf
-  missing-same t i li = λ j. choose (eqb (suc (t % same i li j .period)) (same i li j .period)) (same i li j .runtime - (had-same t i li j + gets (table-same t j) i)) 0
+  unfolding missing received table age job planOf
+  missing-same t i li = λ j. choose (eqb (suc (t % same i li j .period)) (same i li j .period)) (same i li j .runtime - (had-same t i li j + gets (entry-same t j) i)) 0
 
   missed-same : (t : ℕ) → missedAt P t ≡ missedAt Q t
   unfolding missedAt planOf
   missed-same t = first-ext (keyIn P t) (keyIn Q t) (missing P t) (missing Q t) n (key-same t) (missing-same t)
-
-  missed-most : (t : ℕ) → missedAt P t ≤ n
-  unfolding missedAt planOf
-  missed-most t = first-most (keyIn P t) (missing P t) n
 
   late-same : (t e : ℕ) → e ≤ n → lateBy (missing P t) e ≡ lateBy (missing Q t) e
   unfolding lateBy
@@ -115,9 +107,9 @@ module _ (ts us : List Task) (n : ℕ) (same : (i : ℕ) → i < n → taskAt ts
   late-same t (suc i) h = λ j. record { task = suc i; short = missing-same t i h j }
 
   lateness-same : (t : ℕ) → lateness P t ≡ lateness Q t
-  unfolding lateness
+  unfolding lateness missedAt planOf
   lateness-same zero = refl
-  lateness-same (suc t) = λ j. earlier (lateness-same t j) ((late-same t (missedAt P t) (missed-most t) ∙ ap (lateBy (missing Q t)) (missed-same t)) j)
+  lateness-same (suc t) = λ j. earlier (lateness-same t j) ((late-same t (missedAt P t) (first-most (keyIn P t) (missing P t) n) ∙ ap (lateBy (missing Q t)) (missed-same t)) j)
 
   -- ---- margins
   given-same : (i s k : ℕ) → given P (P .runtime) i s k ≡ given Q (Q .runtime) i s k
@@ -189,7 +181,8 @@ module _ (ts us : List Task) (n : ℕ) (same : (i : ℕ) → i < n → taskAt ts
   verdict-same supply = from-same supply (boundsOf l supply) refl ∙ ap (verdictFrom m) (bounds-same supply)
 
   pub entries-same : (cycle : ℕ) (old : List ℕ) → overwrite (table P) cycle old ≡ overwrite (table Q) cycle old
-  entries-same cycle old = overwrite-same (table P) (table Q) old cycle (λ t _. table-same t)
+  unfolding table
+  entries-same cycle old = overwrite-same (table P) (table Q) old cycle (λ t _. entry-same t)
 
   pub state-same : (cycle : ℕ) (mode : Mode) (clock : ℕ) → startState l cycle mode clock ≡ startState m cycle mode clock
   unfolding startState

@@ -1,12 +1,11 @@
 // The verdict, table building and start over a task list that is lent as a run of records: thin walks that copy the records
-// into a list for the covered core. What takes a list by value lends it, so that covered code comes this way too.
+// into a list for the covered core. What takes a list by value lends its records and has them copied the same way.
 ghost use mathlib.Core.Path.{_≡_};
 ghost use mathlib.Core.List.{[]};
 ghost use Prim.Native.Nat.{_<_, _≤_};
-ghost use lib.ListN.{take};
-ghost use Rattle.lent.specs.Shapes.{filled, withTask};
-ghost use Rattle.lent.specs.Lent.{seventeen, lentCount};
-ghost use Rattle.tasks.specs.List.{taskAt, listOf};
+ghost use Rattle.lent.specs.Shapes.{filled, withTask, Held};
+ghost use Rattle.lent.specs.Lent.{Alike};
+ghost use Rattle.tasks.specs.List.{listOf};
 ghost use Rattle.verdict.specs.Verdict.{verdictOf};
 ghost use Rattle.verdict.specs.Table.{Built};
 ghost use Rattle.start.specs.Start.{Begins};
@@ -15,21 +14,6 @@ use start::Started;
 use tasks::Task;
 use tasks::TaskList;
 use verdict::Verdict;
-
-// The record at a place; past the end, the record of no task.
-fn task_or(tasks: &[Task], i: usize) -> Task
-    ensures { λ r. ⌜ r ≡ taskAt (now (tasks .entry)) i ⌝ }
-{
-    if i < tasks.len() {
-        tasks[i]
-    } else {
-        Task {
-            period: 0,
-            runtime: 0,
-            memory: 0,
-        }
-    }
-}
 
 // A list of places that hold no task yet.
 fn empty(count: usize) -> TaskList
@@ -43,6 +27,13 @@ fn empty(count: usize) -> TaskList
         }; 16],
         count,
     }
+}
+
+// How many of so many records have a place in a list.
+fn held(count: usize) -> usize
+    ensures { λ r. ⌜ Held count r ⌝ }
+{
+    if count < 16 { count } else { 16 }
 }
 
 // The list with a task at a place.
@@ -62,10 +53,12 @@ fn with_task(list: TaskList, i: usize, task: Task) -> TaskList
 fn copied(tasks: &[Task]) -> TaskList
     ensures { λ r. ⌜ r ≡ listOf (now (tasks .entry)) ⌝ }
 {
-    let mut list = empty(tasks.len());
+    let count = tasks.len();
+    let mut list = empty(count);
+    let end = held(count);
     let mut i = 0;
-    while i < 16 {
-        let next = with_task(list, i, task_or(tasks, i));
+    while i < end {
+        let next = with_task(list, i, tasks[i]);
         list = next;
         i += 1;
     }
@@ -79,26 +72,11 @@ pub fn judge_lent(tasks: &[Task], supply: u32) -> Verdict
     verdict::judge(copied(tasks), supply)
 }
 
-// The verdict on the first so many of seventeen places, which are lent for it; likewise build_first and start_first below.
-fn judge_first(tasks: [Task; 17], count: usize, supply: u32) -> Verdict
-    requires { ⌜ count ≤ 17 ⌝ }
-    ensures { λ r. ⌜ r ≡ verdictOf (listOf (take count tasks)) supply ⌝ }
-{
-    judge_lent(&tasks[..count], supply)
-}
-
 // Building the table of a lent list.
 pub fn build_lent(tasks: &[Task], supply: u32, table: &mut [u8]) -> Verdict
     ensures { λ r. ⌜ Built (listOf (now (tasks .entry))) supply (now (table .entry)) (now (table .exit)) r ⌝ }
 {
     verdict::build(copied(tasks), supply, table)
-}
-
-fn build_first(tasks: [Task; 17], count: usize, supply: u32, table: &mut [u8]) -> Verdict
-    requires { ⌜ count ≤ 17 ⌝ }
-    ensures { λ r. ⌜ Built (listOf (take count tasks)) supply (now (table .entry)) (now (table .exit)) r ⌝ }
-{
-    build_lent(&tasks[..count], supply, table)
 }
 
 // Starting a run of a lent list.
@@ -108,69 +86,44 @@ pub fn start_lent(tasks: &[Task], supply: u32, asked: Asked, clock: u32, log: &m
     start::start(copied(tasks), supply, asked, clock, log)
 }
 
-fn start_first(
-    tasks: [Task; 17],
-    count: usize,
-    supply: u32,
-    asked: Asked,
-    clock: u32,
-    log: &mut [u8],
-) -> Started
-    requires { ⌜ count ≤ 17 ⌝ }
-    ensures { λ r. ⌜ Begins (listOf (take count tasks)) supply asked clock (now (log .entry)) (now (log .exit)) r ⌝ }
+// The first so many of sixteen places, lent as a run of records and copied.
+fn first_copied(tasks: [Task; 16], count: usize) -> TaskList
+    requires { ⌜ count ≤ 16 ⌝ }
+    ensures { λ r. ⌜ r ≡ filled tasks count count ⌝ }
 {
-    start_lent(&tasks[..count], supply, asked, clock, log)
+    copied(&tasks[..count])
 }
 
-// The sixteen places of a list and one more.
-fn seventeen_of(list: TaskList) -> [Task; 17]
-    ensures { λ r. ⌜ r ≡ seventeen list ⌝ }
+// The list as its records make it anew, lent and copied. A count above 16 names more records than there are places: none is lent.
+fn relisted(list: TaskList) -> TaskList
+    ensures { λ r. ⌜ Alike r list ⌝ }
 {
     let tasks = list.tasks;
-    let mut places = [Task {
-        period: 0,
-        runtime: 0,
-        memory: 0,
-    }; 17];
-    let mut at = 0;
-    while at < 16 {
-        places[at] = tasks[at];
-        at += 1;
+    let count = list.count;
+    if count <= 16 {
+        first_copied(tasks, count)
+    } else {
+        list
     }
-    places
 }
 
-// As many places are lent as the count says, and 17 at most.
-fn lent_count(count: usize) -> usize
-    ensures { λ r. ⌜ r ≡ lentCount count ⌝ }
-{
-    if count < 17 { count } else { 17 }
-}
-
-// The verdict on a list by value, which is lent for it.
+// The verdict on a list by value, whose records are lent for it.
 pub fn judge_list(list: TaskList, supply: u32) -> Verdict
     ensures { λ r. ⌜ r ≡ verdictOf list supply ⌝ }
 {
-    judge_first(seventeen_of(list), lent_count(list.count), supply)
+    verdict::judge(relisted(list), supply)
 }
 
-// Building the table of a list by value, which is lent for it.
+// Building the table of a list by value, whose records are lent for it.
 pub fn build_list(list: TaskList, supply: u32, table: &mut [u8]) -> Verdict
     ensures { λ r. ⌜ Built list supply (now (table .entry)) (now (table .exit)) r ⌝ }
 {
-    build_first(seventeen_of(list), lent_count(list.count), supply, table)
+    verdict::build(relisted(list), supply, table)
 }
 
-// Starting a run of a list by value, which is lent for it.
+// Starting a run of a list by value, whose records are lent for it.
 pub fn start_list(list: TaskList, supply: u32, asked: Asked, clock: u32, log: &mut [u8]) -> Started
     ensures { λ r. ⌜ Begins list supply asked clock (now (log .entry)) (now (log .exit)) r ⌝ }
 {
-    start_first(
-        seventeen_of(list),
-        lent_count(list.count),
-        supply,
-        asked,
-        clock,
-        log,
-    )
+    start::start(relisted(list), supply, asked, clock, log)
 }

@@ -1,5 +1,5 @@
 -- What is printed at each way out of `answer`, as laws over plain values.
-use mathlib.Core.Path.{_≡_, sym, ap, subst, _∙_}
+use mathlib.Core.Path.{_≡_, sym, ap, ap₂, subst, _∙_}
 use mathlib.Core.List.{List}
 use Prim.Native.Nat.{ℕ, _≤_, _<_}
 use native.Mathlib.Omega.{arith}
@@ -9,58 +9,58 @@ use lib.Seq.{length-take-le, getD-take, ext-getD}
 use borrow.Author.Tests.{le-ltb}
 use Rattle.basis.specs.Choose.{choose-no}
 use Rattle.basis.specs.Bytes.{overwrite, overwrite-length, overwritten-length, overwrite-at}
+use Rattle.basis.specs.Answer.{refusal, none}
 use Rattle.plan.specs.Plan.{table}
 use Rattle.tasks.specs.declared.TaskList.{TaskList}
 use Rattle.tasks.specs.List.{planOf}
 use Rattle.verdict.specs.declared.Verdict.{Verdict}
 use Rattle.verdict.specs.declared.Verdict.the-variants.{Accepted, Refused}
-use Rattle.verdict.specs.Verdict.{verdictOf}
-use Rattle.verdict.specs.Verdict.{numbers as verdictNumbers}
+use Rattle.verdict.specs.Verdict.{verdictOf, verdictAnswer}
 use Rattle.verdict.specs.Table.{fitted, tabled, Built}
-use Rattle.verdict.specs.Answers.{accepted-tells}
+use Rattle.verdict.specs.Answers.{accepted-tells, refused-not-0}
 use Rattle.records.specs.declared.Form.{Form}
 use Rattle.records.specs.declared.Form.the-variants.{Good, Bad}
 use Rattle.records.specs.declared.Parsed.{Parsed}
-use Rattle.records.specs.Grammar.{numbers, paper, Reads}
+use Rattle.records.specs.Grammar.{formAnswer, readOf, Reads}
 use Rattle.printing.specs.Text.{refusalText, tableText}
 use Rattle.printing.specs.Written.{Written}
-use Rattle.ozhmandil.specs.Output.{ofForm, ofVerdict, entries, Prints, too-long, bad-line, refused, accepted, Answers}
+use Rattle.output.specs.Output.{recordOf, entries, too-long, bad-line, refused, accepted, Answers}
 
 -- ---- the refusal record of an answer
 module _ {old new : List ℕ} {r : ℕ} (v : Verdict) (task : ℕ) (margin m : ℤ) (same : m ≡ margin) where
-  pub writes-refused : (number : ℕ) → v ≡ Refused number task margin → Written (refusalText number task m) old new r → Written (ofVerdict v) old new r
-  unfolding ofVerdict
+  pub writes-refused : (number : ℕ) → v ≡ Refused number task margin → Written (refusalText number task m) old new r → Written (recordOf (verdictAnswer v)) old new r
+  unfolding recordOf verdictAnswer
   writes-refused number q W = rw (q, ← same) W
 
-  pub writes-accepted : (cycle jobs : ℕ) → v ≡ Accepted cycle jobs task margin → Written (refusalText 0 task m) old new r → Written (ofVerdict v) old new r
-  unfolding ofVerdict
+  pub writes-accepted : (cycle jobs : ℕ) → v ≡ Accepted cycle jobs task margin → Written (refusalText 0 task m) old new r → Written (recordOf (verdictAnswer v)) old new r
+  unfolding recordOf verdictAnswer
   writes-accepted cycle jobs q W = rw (q, ← same) W
 
 -- ---- an input out of form, or too long
--- what an input in form is in the paper's numbers
-good-numbers : (p : Parsed) → p .form ≡ Good → (paper p .refusal ≡ 0) × (paper p .list ≡ p .list)
-unfolding paper numbers
-good-numbers p good = (ap (λ (f : Form). numbers f (p .list) .refusal) good, ap (λ (f : Form). numbers f (p .list) .list) good)
+-- an input in form is not refused
+good-answer : (p : Parsed) → p .form ≡ Good → readOf p .answer .number ≡ 0
+unfolding readOf formAnswer none refusal
+good-answer p good = ap (λ (f : Form). formAnswer f .number) good
 
 module _ {input old new : List ℕ} {r : ℕ} where
   pub answers-too-long : 4096 < length input → Written (refusalText 16 0 (pos 0)) old new r → Answers input old new r
+  unfolding recordOf refusal
   answers-too-long l W = record { text = _; prints = too-long l; written = W }
 
-  module _ (p : Parsed) (l : length input ≤ 4096) (R : Reads input (paper p)) where
-    pub answers-bad-line : (line : ℕ) → p .form ≡ Bad line → Written (ofForm (p .form)) old new r → Answers input old new r
-    unfolding ofForm paper numbers
-    answers-bad-line line b W =
-        record {
-          text = _;
-          prints = subst (λ (n : ℕ). Prints input (refusalText 15 n (pos 0))) (ap (λ (f : Form). numbers f (p .list) .line) b) (bad-line l R (ap (λ (f : Form). numbers f (p .list) .refusal) b));
-          written = rw b at W;
-        }
+  module _ (p : Parsed) (l : length input ≤ 4096) (R : Reads input (readOf p)) where
+    pub answers-bad-line : (line : ℕ) → p .form ≡ Bad line → Written (recordOf (formAnswer (p .form))) old new r → Answers input old new r
+    unfolding readOf formAnswer refusal
+    answers-bad-line line b W = record { text = _; prints = bad-line l R (ap (λ (f : Form). formAnswer f .number) b); written = W }
 
     pub answers-refused : p .form ≡ Good → (v : Verdict) → v ≡ verdictOf (p .list) 65536 → (number task : ℕ) (margin : ℤ) → v ≡ Refused number task margin
-        → Written (ofVerdict v) old new r → Answers input old new r
-    unfolding ofVerdict paper
+        → Written (recordOf (verdictAnswer v)) old new r → Answers input old new r
+    unfolding readOf verdictAnswer
     answers-refused good v e number task margin q W =
-        record { text = _; prints = refused l R (good-numbers p good .0) (ap (λ (x : TaskList). verdictOf x 65536) (good-numbers p good .1) ∙ sym e ∙ q); written = rw q at W }
+        record {
+          text = _;
+          prints = refused l R (good-answer p good) (λ z. refused-not-0 (p .list) 65536 number task margin (sym e ∙ q) (sym (ap (λ (x : Verdict). verdictAnswer x .number) (sym e ∙ q)) ∙ z));
+          written = rw e at W;
+        }
 
 -- ---- an accepted list
 -- The first entries of bytes that are written over do not depend on these.
@@ -75,10 +75,10 @@ first-entries f bytes n l =
 
 module _ (l : TaskList) (v : Verdict) (e : v ≡ verdictOf l 65536) (cycle jobs task : ℕ) (margin : ℤ) (q : v ≡ Accepted cycle jobs task margin) where
   within : cycle ≤ 4096
-  unfolding verdictNumbers
+  unfolding verdictAnswer
   within =
       let K = accepted-tells l 65536 cycle jobs task margin (sym e ∙ q) in
-      omega (arith, ap (λ (x : Verdict). verdictNumbers x .cycle) (K .is), K .keeps .cycle-within)
+      omega (arith, ap (λ (x : Verdict). verdictAnswer x .cycle) (K .is), K .keeps .cycle-within)
 
   module _ (lent built : List ℕ) (room : 4096 ≤ length lent) (w : Verdict) (B : Built l 65536 lent built w) where
     -- A table of 4,096 entries is never too short.
@@ -96,15 +96,17 @@ module _ (l : TaskList) (v : Verdict) (e : v ≡ verdictOf l 65536) (cycle jobs 
     unfolding tabled entries
     table-printed = ap (take cycle) (B .bytes ∙ ap (λ (x : Verdict). tabled l x lent) built-accepted) ∙ first-entries (table (planOf l)) lent cycle (omega (arith, within))
 
-  pub answers-table : {input old new : List ℕ} {r : ℕ} (p : Parsed) → p .list ≡ l → p .form ≡ Good → length input ≤ 4096 → Reads input (paper p)
+  pub answers-table : {input old new : List ℕ} {r : ℕ} (p : Parsed) → p .list ≡ l → p .form ≡ Good → length input ≤ 4096 → Reads input (readOf p)
       → (lent built : List ℕ) → 4096 ≤ length lent → (w : Verdict) → Built l 65536 lent built w
       → Written (tableText (take cycle built)) old new r → (cycle ≤ 4096 → r ≤ 40972) → Answers input old new r × (r ≤ 40972)
+  unfolding readOf verdictAnswer
   answers-table {old = old} {new = new} {r = r} p pl good li R lent built room w B W fits =
-      let same : paper p .list ≡ l = good-numbers p good .1 ∙ pl in (
+      let judged = ap (λ (x : TaskList). verdictOf x 65536) pl ∙ sym e ∙ q in
+      let shown = table-printed lent built room w B ∙ ap₂ entries (sym pl) (sym (ap (λ (x : Verdict). verdictAnswer x .cycle) judged)) in (
         record {
-          text = tableText (entries (paper p .list) cycle);
-          prints = accepted {margin = margin} li R (good-numbers p good .0) (ap (λ (x : TaskList). verdictOf x 65536) same ∙ sym e ∙ q);
-          written = subst (λ (t : List ℕ). Written (tableText t) old new r) (table-printed lent built room w B ∙ ap (λ (x : TaskList). entries x cycle) (sym same)) W;
+          text = _;
+          prints = accepted li R (good-answer p good) (ap (λ (x : Verdict). verdictAnswer x .number) judged);
+          written = subst (λ (t : List ℕ). Written (tableText t) old new r) shown W;
         },
         fits within,
       )

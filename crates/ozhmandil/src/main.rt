@@ -2,7 +2,9 @@
 ghost use Prim.Native.Nat.{_≤_};
 ghost use lib.ListN.{length};
 ghost use Rattle.printing.specs.Written.{Written};
-ghost use Rattle.ozhmandil.specs.Output.{ofForm, ofVerdict, Answers};
+ghost use Rattle.verdict.specs.Verdict.{verdictAnswer};
+ghost use Rattle.records.specs.Grammar.{formAnswer};
+ghost use Rattle.output.specs.Output.{recordOf, Answers};
 use libc::STDIN_FILENO;
 use libc::STDOUT_FILENO;
 use records::Form;
@@ -10,7 +12,7 @@ use verdict::Verdict;
 
 // The refusal record of an input that is not in form.
 fn refuse_form(form: Form, out: &mut [u8]) -> usize
-    ensures { λ r. ⌜ Written (ofForm form) (now (out .entry)) (now (out .exit)) r ⌝ }
+    ensures { λ r. ⌜ Written (recordOf (formAnswer form)) (now (out .entry)) (now (out .exit)) r ⌝ }
     ensures { λ r. ⌜ r ≤ 66 ⌝ }
 {
     match form {
@@ -21,7 +23,7 @@ fn refuse_form(form: Form, out: &mut [u8]) -> usize
 
 // The refusal record of a list.
 fn refuse_list(verdict: Verdict, out: &mut [u8]) -> usize
-    ensures { λ r. ⌜ Written (ofVerdict verdict) (now (out .entry)) (now (out .exit)) r ⌝ }
+    ensures { λ r. ⌜ Written (recordOf (verdictAnswer verdict)) (now (out .entry)) (now (out .exit)) r ⌝ }
     ensures { λ r. ⌜ r ≤ 66 ⌝ }
 {
     match verdict {

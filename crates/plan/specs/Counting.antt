@@ -9,8 +9,8 @@ use lib.Dec.{eqb}
 use borrow.Author.Tests.{eq-eqb, ne-eqb}
 use Rattle.basis.specs.Choose.{choose-yes, choose-no, eq-or-ne}
 use Rattle.basis.specs.Sum.{sum, sum-zero, sum-add, sum-ext, sum-more-at}
-use Rattle.plan.specs.Plan.{Plan, Sound, Demand, release, deadline, OnTime, OnTimeUpTo, HadBy, keyIn, gets, entry, table, given, idles, idle}
-use Rattle.plan.specs.Work.{gets-one, gets-none, got-wants}
+use Rattle.plan.specs.Plan.{Plan, Sound, Demand, release, deadline, OnTime, OnTimeUpTo, HadBy, keyIn, gets, entry, table, given, idles, idle, NoneWants, FirstTask, IsFirst}
+use Rattle.plan.specs.Work.{gets-one, gets-none}
 use Rattle.plan.specs.Run.{lacks, entry-law, given-in-none, given-more, never-more}
 
 module _ (P : Plan) (d : Demand) (i : ℕ) where
@@ -54,13 +54,12 @@ one-entry e n l =
 
 module _ (P : Plan) (d : Demand) where
   pub entry-within : (t : ℕ) → entry P d t ≤ P .count
+  unfolding IsFirst
   entry-within t =
       ⊎-elim
-      (λ (z : entry P d t ≡ 0). omega arith)
-      (λ (nz : entry P d t ≡ 0 → ⊥).
-      let q : entry P d t ≡ suc (entry P d t - 1) = omega arith in
-      omega (arith, got-wants (P .count) (keyIn P t) (lacks P d d t) (entry P d t) (entry-law P d t) (entry P d t - 1) q .0))
-      (eq-or-ne (entry P d t) 0)
+      (λ (h : NoneWants (lacks P d d t) (P .count) (entry P d t)). omega (arith, h .idle))
+      (λ (h : FirstTask (keyIn P t) (lacks P d d t) (P .count) (entry P d t)). omega (arith, h .is, h .below))
+      (entry-law P d t)
 
   -- What all tasks get in some slices and the idle ones among these are as many as the slices.
   pub entries-add-up : (s m : ℕ) → sum (λ i. given P d i s m) (P .count) + idle P d s m ≡ m

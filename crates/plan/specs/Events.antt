@@ -11,7 +11,7 @@ use lib.Dec.{ltb}
 use borrow.Author.Tests.{lt-ltb, le-ltb}
 use Rattle.basis.specs.Bytes.{at}
 use Rattle.basis.specs.Choose.{choose, choose-yes, choose-no, le-or-lt, eq-or-ne}
-use Rattle.basis.specs.Sum.{sum, sum-grows}
+use Rattle.basis.specs.Sum.{sum, sum-grows, sum-apart}
 use Rattle.plan.specs.Plan.{Plan, Sound, Demand, release, deadline, job, age, keyIn, gets, entry, ranksBefore, IsFirst}
 use Rattle.plan.specs.Work.{gets-one, gets-none}
 use Rattle.plan.specs.Run.{age-below, age-goes-on, age-anew, job-goes-on, release-age, job-at, age-at, had-anew, lacks, lacks-open, lacks-shut, lacks-goes-on, entry-law}
@@ -68,18 +68,6 @@ module _ (P : Plan) (S : Sound P) (i : ℕ) (li : i < P .count) (t : ℕ) where
         let here : release P i (job P i t) + (age P i t + s) ≡ t + s = omega (arith, release-age P S i li t) in
         let young : age P i t + s < P .period i = omega (arith, event-by-release, release-age P S i li t) in
         (rw here at (job-at P S i li (job P i t) (age P i t + s) young), rw here at (age-at P S i li (job P i t) (age P i t + s) young))
-
-    lacks-inside : (d c : Demand) (s : ℕ) → suc s < m → lacks P d c (suc (t + s)) i ≡ lacks P d c (t + s) i - gets (entry P c (t + s)) i
-    lacks-inside d c s l =
-        ⊎-elim
-        (λ (o : P .due i ≤ age P i t).
-        omega (
-          arith,
-          lacks-shut P d c (t + s) i (omega (arith, age-inside s (omega arith))),
-          lacks-shut P d c (suc (t + s)) i (omega (arith, ap (age P i) (add-suc t s), age-inside (suc s) l)),
-        ))
-        (λ (b : age P i t < P .due i). lacks-goes-on P S d c i li (t + s) (omega (arith, age-inside s (omega arith), event-open P i t b, release-age P S i li t)))
-        (le-or-lt (P .due i) (age P i t))
 
     -- the next event stays the same until it is there
     pub event-inside : (s : ℕ) → s < m → (release P i (job P i (t + s)) ≡ release P i (job P i t)) × (nextEvent P i (t + s) ≡ nextEvent P i t)
@@ -175,11 +163,8 @@ GoesTo order lack n s e = Spare lack n s e ⊎ TurnOf order lack n s e
 
 module _ (order : List ℕ) (lack : ℕ → ℕ) (n s : ℕ) where
   no-two-turns : (a b : ℕ) → sum lack a ≤ s → s < sum lack (suc a) → sum lack b ≤ s → s < sum lack (suc b) → a ≡ b
-  no-two-turns a b ba oa bb ob =
-      ⊎-elim
-      (λ (l : a ≤ b). ⊎-elim (λ (e : a ≡ b). e) (λ (ne : a ≡ b → ⊥). absurd (omega (arith, sum-grows lack (suc a) b (omega arith)))) (eq-or-ne a b))
-      (λ (l : b < a). absurd (omega (arith, sum-grows lack (suc b) a l)))
-      (le-or-lt a b)
+  unfolding sum
+  no-two-turns a b ba oa bb ob = sum-apart lack a b (s - sum lack a) (s - sum lack b) (omega arith) (omega arith) (omega arith) .0
 
   pub goes-to-one : (e f : ℕ) → GoesTo order lack n s e → GoesTo order lack n s f → e ≡ f
   unfolding GoesTo
@@ -189,7 +174,7 @@ module _ (order : List ℕ) (lack : ℕ → ℕ) (n s : ℕ) where
   goes-to-one e f (inr h) (inr k) =
       h .is ∙ ap (λ (x : ℕ). suc (at order x)) (no-two-turns (h .place) (k .place) (h .begun) (h .not-over) (k .begun) (k .not-over)) ∙ sym (k .is)
 
--- Those whose turn is over lack nothing, those whose turn is to come lack what they did, and the one whose turn it is takes a slice.
+-- Those whose turn is over lack nothing, and those whose turn is to come lack what they did.
 module _ (lack : ℕ → ℕ) (k s : ℕ) where
   pub over-left : sum lack (suc k) ≤ s → left lack k s ≡ 0
   unfolding left sum
@@ -199,10 +184,6 @@ module _ (lack : ℕ → ℕ) (k s : ℕ) where
   unfolding left
   to-come-left l = omega arith
 
-  one-taken : sum lack k ≤ s → s < sum lack (suc k) → left lack k (suc s) ≡ left lack k s - 1
-  unfolding left sum
-  one-taken a b = omega arith
-
 -- who has nothing left has had its turn
 nothing-left : (lack : ℕ → ℕ) (s k : ℕ) → ((j : ℕ) → j < k → left lack j s ≡ 0) → sum lack k ≤ s
 unfolding left sum
@@ -211,28 +192,17 @@ nothing-left lack s (suc k) h = omega (arith, h k (omega arith), nothing-left la
 
 module _ (key lack : ℕ → ℕ) (n : ℕ) (order : List ℕ) (R : Ranked key n order) (s e k : ℕ) (lk : k < n) where
   pub left-falls : GoesTo order lack n s e → left lack k (suc s) ≡ left lack k s - gets e (at order k)
-  unfolding GoesTo
-  left-falls (inl h) =
-      omega (
-        arith,
-        over-left lack k s (omega (arith, h .all-had, sum-grows lack (suc k) n lk)),
-        over-left lack k (suc s) (omega (arith, h .all-had, sum-grows lack (suc k) n lk)),
-      )
+  unfolding GoesTo left sum
+  left-falls (inl h) = omega (arith, h .all-had, sum-grows lack (suc k) n lk)
   left-falls (inr h) =
       ⊎-elim
       (λ (here : h .place ≡ k).
-      let a = ap (sum lack) here in
-      let b = ap (λ (x : ℕ). sum lack (suc x)) here in
-      omega (arith, one-taken lack k s (omega (arith, h .begun)) (omega (arith, h .not-over)), gets-one e (at order k) (h .is ∙ ap (λ (x : ℕ). suc (at order x)) here)))
+      omega (arith, h .begun, h .not-over, ap (sum lack) here, ap lack here, gets-one e (at order k) (h .is ∙ ap (λ (x : ℕ). suc (at order x)) here)))
       (λ (other : h .place ≡ k → ⊥).
       let none = gets-none e (at order k) (λ q. other (one-place key n order R (h .place) k (h .below) lk (suc-inj (sym (h .is) ∙ q)))) in
       ⊎-elim
-      (λ (l : k ≤ h .place).
-      let had = sum-grows lack (suc k) (h .place) (omega arith) in
-      omega (arith, over-left lack k s (omega (arith, h .begun)), over-left lack k (suc s) (omega (arith, h .begun))))
-      (λ (l : h .place < k).
-      let to-come = sum-grows lack (suc (h .place)) k l in
-      omega (arith, to-come-left lack k s (omega (arith, h .not-over)), to-come-left lack k (suc s) (omega (arith, h .not-over))))
+      (λ (l : k ≤ h .place). omega (arith, h .begun, sum-grows lack (suc k) (h .place) (omega arith)))
+      (λ (l : h .place < k). omega (arith, h .not-over, sum-grows lack (suc (h .place)) k l))
       (le-or-lt k (h .place)))
       (eq-or-ne (h .place) k)
 
@@ -276,8 +246,9 @@ module _ (P : Plan) (S : Sound P) (d : Demand) (t m : ℕ) (quiet : (i : ℕ) �
   lacks-left zero l k lk = ap (λ (x : ℕ). lacks P d d x (at order k)) (add-zero t) ∙ sym (lack-is k lk) ∙ sym (to-come-left lack k 0 (omega arith))
   lacks-left (suc s) l k lk =
       let so = lacks-left s (omega arith) in
+      let calm = quiet (at order k) (R .below k lk) in
       ap (λ (x : ℕ). lacks P d d x (at order k)) (add-suc t s)
-      ∙ lacks-inside P S (at order k) (R .below k lk) t m (quiet (at order k) (R .below k lk)) d d s l
+      ∙ before-event P S d (at order k) (R .below k lk) (t + s) (omega (arith, calm, event-inside P S (at order k) (R .below k lk) t m calm s (omega arith))) .lack-is
       ∙ ap (λ (x : ℕ). x - gets (entry P d (t + s)) (at order k)) (so k lk)
       ∙ sym (left-falls (keyIn P t) lack (P .count) order R s (entry P d (t + s)) k lk (turn-taken s (entry P d (t + s)) (omega arith) so (entry-law P d (t + s))))
 

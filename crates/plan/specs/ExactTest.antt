@@ -7,15 +7,15 @@ use Prim.Native.Nat.{ℕ, zero, suc, _+_, _-_, _*_, _≤_, _<_}
 use native.Mathlib.Omega.{arith}
 use native.Mathlib.Nat.{zero-add, zero-mul, mul-one, div-eq-of-lt}
 use lib.Dec.{ltb}
-use borrow.Author.Tests.{lt-ltb, le-ltb, ltb-true}
-use Rattle.basis.specs.Choose.{choose, choose-yes, choose-no, bool-cases, le-or-lt, eq-or-ne}
-use Rattle.basis.specs.Sum.{sum-ext, sum-same, sum-more-at, part-le-sum}
+use borrow.Author.Tests.{lt-ltb, ltb-true}
+use Rattle.basis.specs.Choose.{choose, bool-cases, le-or-lt, eq-or-ne}
+use Rattle.basis.specs.Sum.{sum-ext, sum-same}
 use Rattle.plan.specs.Plan.{Plan, Monotonic, Demand, release, deadline, job, age, keyIn, ranksBefore, first, gets, entry, given, HadBy, OnTime, OnTimeUpTo, asks, bound, Passes, IsFirst, NoneWants, FirstTask}
 use Rattle.plan.specs.Rank.{rank, rank-tells, not-before-key, first-law}
-use Rattle.plan.specs.Work.{part, part-in, part-out, before, before-le, before-all, after, rank-only, gets-cases, got-first}
+use Rattle.plan.specs.Work.{part, before, before-le, before-all, before-own, after, rank-only, gets-cases, got-first}
 use Rattle.plan.specs.Run.{job-at, age-at, release-age, lacks, lacks-open, had-after, given-in-none, given-more, given-at}
 use Rattle.plan.specs.Counting.{given-split, given-grows, had-by-later, entries-of-jobs, entries-add-up}
-use Rattle.plan.specs.Busy.{asked, leftover, since, since-past, since-nothing, since-within, by-due, asks-by}
+use Rattle.plan.specs.Busy.{asked, leftover, LastRest, last-rest, by-due, asks-by}
 
 -- the rank of task i, which goes by its deadline
 unfoldable pub rankOf : Plan → ℕ → ℕ
@@ -25,63 +25,41 @@ rankOf P i = rank (P .count) (P .due) i
 unfoldable pub AllBeforePass : Plan → ℕ → Type 0
 AllBeforePass P i = (j : ℕ) → j < P .count → ranksBefore (keyIn P 0) j i ≡ true → Passes P j
 
-module _ (P : Plan) (M : Monotonic P) where
+module _ (P : Plan) (monotonic : Monotonic P) where
   abbrev r : Demand
   r = P .runtime
 
   rank-before : (i j : ℕ) → i < P .count → j < P .count → ranksBefore (keyIn P 0) i j ≡ ltb (rankOf P i) (rankOf P j)
   unfolding rankOf keyIn rank
-  rank-before i j li lj = rank-tells (keyIn P 0) (P .count) i j li lj ∙ rw (M .by-deadline i (job P i 0) li, M .by-deadline j (job P j 0) lj)
+  rank-before i j li lj = rank-tells (keyIn P 0) (P .count) i j li lj ∙ rw (monotonic .by-deadline i (job P i 0) li, monotonic .by-deadline j (job P j 0) lj)
 
   -- The test's sum is what the tasks of the level ask for, those up to the task's own rank.
-  level-part : (i t j : ℕ) → i < P .count → j < P .count → (j ≡ i → ⊥)
-      → choose (ranksBefore (keyIn P 0) j i) (asks P t j) 0 ≡ part (P .count) (P .due) (suc (rankOf P i)) (asks P t) j
-  unfolding rankOf
-  level-part i t j li lj ne =
-      ap (λ (b : Bool). choose b (asks P t j) 0) (rank-before j i lj li)
-      ∙ ⊎-elim
-      (λ (l : rankOf P i ≤ rankOf P j).
-      let other : rankOf P j ≡ rankOf P i → ⊥ = λ q. ne (rank-only (P .count) (P .due) j i lj li q) in
-      choose-no (ltb (rankOf P j) (rankOf P i)) (asks P t j) 0 (le-ltb (rankOf P j) (rankOf P i) l)
-      ∙ sym (part-out (P .count) (P .due) (suc (rankOf P i)) (asks P t) j (omega arith)))
-      (λ (l : rankOf P j < rankOf P i).
-      choose-yes (ltb (rankOf P j) (rankOf P i)) (asks P t j) 0 (lt-ltb (rankOf P j) (rankOf P i) l)
-      ∙ sym (part-in (P .count) (P .due) (suc (rankOf P i)) (asks P t) j (omega arith)))
-      (le-or-lt (rankOf P i) (rankOf P j))
-
-  bound-is-asked : (i t : ℕ) → i < P .count → bound P i t ≡ asked P M (suc (rankOf P i)) t
-  unfolding bound asked before rankOf
+  bound-is-asked : (i t : ℕ) → i < P .count → bound P i t ≡ asked P monotonic (suc (rankOf P i)) t
+  unfolding bound asked before rankOf part
   bound-is-asked i t li =
-      let own : choose (ranksBefore (keyIn P 0) i i) (asks P t i) 0 ≡ 0
-      = choose-no (ranksBefore (keyIn P 0) i i) (asks P t i) 0 (rank-before i i li li ∙ le-ltb (rankOf P i) (rankOf P i) (omega arith)) in
       omega (
         arith,
-        sum-more-at (part (P .count) (P .due) (suc (rankOf P i)) (asks P t)) (λ j. choose (ranksBefore (keyIn P 0) j i) (asks P t j) 0) (P .count) i (asks P t i) li
-            (omega (arith, own, part-in (P .count) (P .due) (suc (rankOf P i)) (asks P t) i (omega arith)))
-            (λ j lj ne. level-part i t j li lj ne),
+        sum-ext (λ j. choose (ranksBefore (keyIn P 0) j i) (asks P t j) 0) (part (P .count) (P .due) (rankOf P i) (asks P t)) (P .count)
+            (λ j lj. ap (λ (b : Bool). choose b (asks P t j) 0) (rank-before j i lj li)),
+        before-own (P .count) (P .due) (asks P t) i li,
       )
 
   -- ---- passing is enough
   -- where nothing of a task's level is left after slice s, its current job has had its run-time
-  nothing-left : (i s : ℕ) → i < P .count → leftover P M (suc (rankOf P i)) (suc s) ≡ 0 → lacks P r r s i - gets (entry P r s) i ≡ 0
-  unfolding leftover before after rankOf
-  nothing-left i s li z =
-      omega (
-        arith,
-        part-in (P .count) (P .due) (suc (rankOf P i)) (after (entry P r s) (lacks P r r s)) i (omega arith),
-        part-le-sum (part (P .count) (P .due) (suc (rankOf P i)) (after (entry P r s) (lacks P r r s))) (P .count) i li,
-      )
+  nothing-left : (i s : ℕ) → i < P .count → leftover P monotonic (suc (rankOf P i)) (suc s) ≡ 0 → lacks P r r s i - gets (entry P r s) i ≡ 0
+  unfolding leftover after rankOf
+  nothing-left i s li z = omega (arith, before-own (P .count) (P .due) (after (entry P r s) (lacks P r r s)) i li)
 
-  had-its-runtime : (i k m : ℕ) → i < P .count → m < P .due i → leftover P M (suc (rankOf P i)) (suc (release P i k + m)) ≡ 0
+  had-its-runtime : (i k m : ℕ) → i < P .count → m < P .due i → leftover P monotonic (suc (rankOf P i)) (suc (release P i k + m)) ≡ 0
       → r i k ≤ given P r i (release P i k) (suc m)
   had-its-runtime i k m li l z =
-      let m-in : m < P .period i = omega (arith, M .sound .due-within i li) in
+      let m-in : m < P .period i = omega (arith, monotonic .sound .due-within i li) in
       omega (
         arith,
         nothing-left i (release P i k + m) li z,
-        lacks-open P r r (release P i k + m) i (omega (arith, age-at P (M .sound) i li k m m-in)),
-        ap (r i) (job-at P (M .sound) i li k m m-in),
-        given-at P (M .sound) r i li k m m-in,
+        lacks-open P r r (release P i k + m) i (omega (arith, age-at P (monotonic .sound) i li k m m-in)),
+        ap (r i) (job-at P (monotonic .sound) i li k m m-in),
+        given-at P (monotonic .sound) r i li k m m-in,
       )
 
   -- A task whose level asks for no more than t in t slices has had its run-time in every job t slices after the release.
@@ -90,27 +68,21 @@ module _ (P : Plan) (M : Monotonic P) where
   passes-had-by i t li p l b k =
       omega (
         arith,
-        had-its-runtime i k m li (omega (arith, late-enough, early-enough)) (ap (leftover P M ρ) (sym s-is) ∙ since-nothing P M ρ (release P i k + t)),
-        given-grows P r i (release P i k) (suc m) t (omega (arith, late-enough, early-enough)),
+        had-its-runtime i k m li (omega (arith, L .past, L .within)) (ap (leftover P monotonic ρ) (sym s-is) ∙ L .nothing),
+        given-grows P r i (release P i k) (suc m) t (omega (arith, L .past, L .within)),
       )
     where
       ρ : ℕ
       ρ = suc (rankOf P i)
 
-      s : ℕ
-      s = since P M ρ (release P i k + t)
+      L : LastRest P monotonic ρ t (release P i k + t)
+      L = last-rest P monotonic ρ t p (omega (arith, bound-is-asked i t li)) (release P i k + t)
 
       m : ℕ
-      m = s - suc (release P i k)
+      m = L .slice - suc (release P i k)
 
-      late-enough : release P i k + t < s + t
-      late-enough = since-within P M ρ t p (omega (arith, bound-is-asked i t li)) (release P i k + t)
-
-      early-enough : s ≤ release P i k + t
-      early-enough = since-past P M ρ (release P i k + t)
-
-      s-is : s ≡ suc (release P i k + m)
-      s-is = omega (arith, late-enough)
+      s-is : L .slice ≡ suc (release P i k + m)
+      s-is = omega (arith, L .within)
 
   -- A task that passes has every job on time.
   pub passes-on-time : (i : ℕ) → i < P .count → Passes P i → (k : ℕ) → OnTime P r i k
@@ -144,7 +116,7 @@ module _ (P : Plan) (M : Monotonic P) where
       ⊎-elim
       (λ (l : P .due j ≤ age P j s).
       omega (arith, on (job P j s), given-grows P r j (release P j (job P j s)) (P .due j) (suc (age P j s)) (omega arith)))
-      (λ (l : age P j s < P .due j). omega (arith, lacks-open P r r s j l, had-after P (M .sound) r j lj s))
+      (λ (l : age P j s < P .due j). omega (arith, lacks-open P r r s j l, had-after P (monotonic .sound) r j lj s))
       (le-or-lt (P .due j) (age P j s))
 
   -- so such a task has been given all that it asked for
@@ -152,14 +124,14 @@ module _ (P : Plan) (M : Monotonic P) where
   given-all j s lj on z =
       omega (
         arith,
-        asks-by P M j lj s,
+        asks-by P monotonic j lj s,
         ap (given P r j 0) s-is,
         given-split P r j 0 (release P j q) (suc (age P j s)),
         ap (λ (x : ℕ). given P r j x (suc (age P j s))) (zero-add (release P j q)),
-        entries-of-jobs P (M .sound) r j lj q (λ k lk. on k),
-        sum-ext (r j) (λ _. r j 0) q (λ k lk. M .one-runtime j k lj),
+        entries-of-jobs P (monotonic .sound) r j lj q (λ k lk. on k),
+        sum-ext (r j) (λ _. r j 0) q (λ k lk. monotonic .one-runtime j k lj),
         sum-same (r j 0) q,
-        M .one-runtime j q lj,
+        monotonic .one-runtime j q lj,
         current-given j s lj on z,
       )
     where
@@ -167,7 +139,7 @@ module _ (P : Plan) (M : Monotonic P) where
       q = job P j s
 
       s-is : suc s ≡ release P j q + suc (age P j s)
-      s-is = omega (arith, release-age P (M .sound) j lj s)
+      s-is = omega (arith, release-age P (monotonic .sound) j lj s)
 
   -- In a slice that goes to task i none ranking before it lacks anything.
   lacks-nothing : (i j s : ℕ) → i < P .count → j < P .count → rankOf P j < rankOf P i → entry P r s ≡ suc i → lacks P r r s j ≡ 0
@@ -175,7 +147,7 @@ module _ (P : Plan) (M : Monotonic P) where
   lacks-nothing i j s li lj l e =
       ⊎-elim
       (λ (z : lacks P r r s j ≡ 0). z)
-      (λ (nz : lacks P r r s j ≡ 0 → ⊥). absurd (omega (arith, got-first (P .count) (P .due) (lacks P r r s) (entry P r s) (by-due P M 0 s) i j e lj (omega arith))))
+      (λ (nz : lacks P r r s j ≡ 0 → ⊥). absurd (omega (arith, got-first (P .count) (P .due) (lacks P r r s) (entry P r s) (by-due P monotonic 0 s) i j e lj (omega arith))))
       (eq-or-ne (lacks P r r s j) 0)
 
   -- If all tasks ranking before task i pass, the slice that ends its first job is a point that passes.
@@ -183,7 +155,7 @@ module _ (P : Plan) (M : Monotonic P) where
   asks-once : (i s : ℕ) → i < P .count → s < P .due i → asks P (suc s) i ≡ r i 0
   unfolding job
   asks-once i s li l =
-      asks-by P M i li s ∙ ap (λ (k : ℕ). r i 0 * suc k) (div-eq-of-lt (omega (arith, M .sound .due-within i li))) ∙ mul-one (r i 0)
+      asks-by P monotonic i li s ∙ ap (λ (k : ℕ). r i 0 * suc k) (div-eq-of-lt (omega (arith, monotonic .sound .due-within i li))) ∙ mul-one (r i 0)
 
   module _ (i s : ℕ) (li : i < P .count) (pass : AllBeforePass P i) (l : s < P .due i) (e : entry P r s ≡ suc i) (h : r i 0 ≤ given P r i 0 (suc s)) where
     given-in-level : (j : ℕ) → j < P .count → rankOf P j < suc (rankOf P i) → asks P (suc s) j ≤ given P r j 0 (suc s)
@@ -214,7 +186,7 @@ module _ (P : Plan) (M : Monotonic P) where
       → (t : ℕ) × (1 ≤ t) × (t ≤ m) × (bound P i t ≤ t)
   unfolding HadBy release
   first-end-passes i m li pass l h =
-      let b = brings i (r i 0) m (M .runtime-pos i li) (omega (arith, ap (λ (s : ℕ). given P r i s m) (zero-mul (P .period i)))) in
+      let b = brings i (r i 0) m (monotonic .runtime-pos i li) (omega (arith, ap (λ (s : ℕ). given P r i s m) (zero-mul (P .period i)))) in
       (suc (b .0), omega arith, b .1, end-passes i (b .0) li pass (omega arith) (b .2) (b .3))
 
   -- If all tasks ranking before a task pass and its first job is on time, it passes.
@@ -247,14 +219,14 @@ AllOnTime P = (i k : ℕ) → i < P .count → OnTime P (P .runtime) i k
 unfoldable pub FirstsOnTime : Plan → Type 0
 FirstsOnTime P = (i : ℕ) → i < P .count → OnTime P (P .runtime) i 0
 
-module _ (P : Plan) (M : Monotonic P) where
+module _ (P : Plan) (monotonic : Monotonic P) where
   pub all-pass-on-time : AllPass P → AllOnTime P
   unfolding AllPass AllOnTime
-  all-pass-on-time pass i k li = passes-on-time P M i li (pass i li) k
+  all-pass-on-time pass i k li = passes-on-time P monotonic i li (pass i li) k
 
   pub firsts-on-time-pass : FirstsOnTime P → AllPass P
   unfolding FirstsOnTime AllPass
-  firsts-on-time-pass on i li = pass-below P M (suc (rankOf P i)) (λ j lj _. on j lj) i li (omega arith)
+  firsts-on-time-pass on i li = pass-below P monotonic (suc (rankOf P i)) (λ j lj _. on j lj) i li (omega arith)
 
   -- Every task passes exactly if every job is on time, and exactly if every first job is;
   pub test-exact : (AllPass P ↔ AllOnTime P) × (AllPass P ↔ FirstsOnTime P)
@@ -279,7 +251,7 @@ pub record FirstFailing (P : Plan) (i : ℕ) : Type 0 where
   pub fails : Passes P i → ⊥
   pub before-pass : AllBeforePass P i
 
-module _ (P : Plan) (M : Monotonic P) where
+module _ (P : Plan) (monotonic : Monotonic P) where
   first-on-time : (i : ℕ) → OnTime P (P .runtime) i 0 ↔ (P .runtime i 0 ≤ given P (P .runtime) i 0 (P .due i))
   unfolding OnTime HadBy release
   first-on-time i = (λ h. omega (arith, from-0), λ h. omega (arith, from-0))
@@ -291,7 +263,7 @@ module _ (P : Plan) (M : Monotonic P) where
   pub first-failing-late : (i : ℕ) → FirstFailing P i → given P (P .runtime) i 0 (P .due i) < P .runtime i 0
   first-failing-late i F =
       ⊎-elim
-      (λ (h : P .runtime i 0 ≤ given P (P .runtime) i 0 (P .due i)). absurd (F .fails (first-on-time-passes P M i (F .below) (F .before-pass) (first-on-time i .1 h))))
+      (λ (h : P .runtime i 0 ≤ given P (P .runtime) i 0 (P .due i)). absurd (F .fails (first-on-time-passes P monotonic i (F .below) (F .before-pass) (first-on-time i .1 h))))
       (λ (l : given P (P .runtime) i 0 (P .due i) < P .runtime i 0). l)
       (le-or-lt (P .runtime i 0) (given P (P .runtime) i 0 (P .due i)))
 
@@ -301,9 +273,9 @@ module _ (P : Plan) (M : Monotonic P) where
   unfolding deadline keyIn AllBeforePass
   first-failing-earliest i j k F lj late =
       ⊎-elim
-      (λ (b : ranksBefore (keyIn P 0) j i ≡ true). absurd (late (passes-on-time P M j lj (F .before-pass j lj b) k)))
+      (λ (b : ranksBefore (keyIn P 0) j i ≡ true). absurd (late (passes-on-time P monotonic j lj (F .before-pass j lj b) k)))
       (λ (b : ranksBefore (keyIn P 0) j i ≡ false).
-      (omega (arith, not-before-key (keyIn P 0) j i b, M .by-deadline i (job P i 0) (F .below), M .by-deadline j (job P j 0) lj), b))
+      (omega (arith, not-before-key (keyIn P 0) j i b, monotonic .by-deadline i (job P i 0) (F .below), monotonic .by-deadline j (job P j 0) lj), b))
       (bool-cases (ranksBefore (keyIn P 0) j i))
 
   -- what the first job of task i lacks at its deadline
@@ -316,14 +288,14 @@ module _ (P : Plan) (M : Monotonic P) where
   late-has-first-failing j k lj late =
       ⊎-elim
       (λ (none : NoneWants short (P .count) e).
-      absurd (late (all-pass-on-time P M (firsts-on-time-pass P M (λ i li. first-on-time i .1 (omega (arith, none .none i li)))) j k lj)))
+      absurd (late (all-pass-on-time P monotonic (firsts-on-time-pass P monotonic (λ i li. first-on-time i .1 (omega (arith, none .none i li)))) j k lj)))
       (λ (f : FirstTask (keyIn P 0) short (P .count) e). (
         f .task,
         record {
           below = f .below;
-          fails = λ p. omega (arith, f .wanting, first-on-time (f .task) .0 (passes-on-time P M (f .task) (f .below) p 0));
+          fails = λ p. omega (arith, f .wanting, first-on-time (f .task) .0 (passes-on-time P monotonic (f .task) (f .below) p 0));
           before-pass = λ h lh b.
-              pass-below P M (rankOf P (f .task)) (before-on-time f) h lh (ltb-true (rankOf P h) (rankOf P (f .task)) (sym (rank-before P M h (f .task) lh (f .below)) ∙ b));
+              pass-below P monotonic (rankOf P (f .task)) (before-on-time f) h lh (ltb-true (rankOf P h) (rankOf P (f .task)) (sym (rank-before P monotonic h (f .task) lh (f .below)) ∙ b));
         },
       ))
       (first-law (keyIn P 0) short (P .count))
@@ -336,5 +308,5 @@ module _ (P : Plan) (M : Monotonic P) where
           ⊎-elim
           (λ (z : short g ≡ 0). first-on-time g .1 (omega arith))
           (λ (nz : short g ≡ 0 → ⊥).
-          absurd (true≢false (sym (rank-before P M g (f .task) lg (f .below) ∙ lt-ltb (rankOf P g) (rankOf P (f .task)) l) ∙ f .none-before g lg (omega arith))))
+          absurd (true≢false (sym (rank-before P monotonic g (f .task) lg (f .below) ∙ lt-ltb (rankOf P g) (rankOf P (f .task)) l) ∙ f .none-before g lg (omega arith))))
           (eq-or-ne (short g) 0)

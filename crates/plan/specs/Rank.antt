@@ -8,7 +8,7 @@ use native.Mathlib.Nat.{mul-le-mul-right, suc-inj}
 use lib.Dec.{ltb}
 use borrow.Author.Tests.{lt-ltb, le-ltb, ltb-false, eq-eqb, ne-eqb}
 use Rattle.basis.specs.Choose.{choose, le-or-lt, eq-or-ne, ltb-same, below-suc}
-use Rattle.plan.specs.Plan.{ranksBefore, NoneWants, FirstTask, IsFirst, firstOf, first}
+use Rattle.plan.specs.Plan.{ranksBefore, FirstTask, IsFirst, firstOf, first}
 
 -- ---- rank as one number: the key, then the place
 unfoldable pub rank : ℕ → (ℕ → ℕ) → ℕ → ℕ
@@ -68,71 +68,43 @@ module _ (key : ℕ → ℕ) where
 
 -- ---- the scan's law
 module _ (key wants : ℕ → ℕ) (n : ℕ) where
-  unwanted : {A : Type 0} (j i : ℕ) → j ≡ i → wants i ≡ 0 → 0 < wants j → A
-  unwanted j i e z p = absurd (omega (arith, ap wants e))
-
-  kept : (e : ℕ) → wants n ≡ 0 → IsFirst key wants n e → IsFirst key wants (suc n) e
-  unfolding IsFirst
-  kept e w (inl h) =
-      inl (record { idle = h .idle; none = λ j l. ⊎-elim (λ b. h .none j b) (λ b. ap wants b ∙ w) (below-suc j n l) })
-  kept e w (inr h) =
-      inr (record {
-        task = h .task;
-        is = h .is;
-        below = omega arith;
-        wanting = h .wanting;
-        none-before = λ j l p. ⊎-elim (λ b. h .none-before j b p) (λ b. unwanted j n b w p) (below-suc j n l);
-      })
-
-  alone : 0 < wants n → NoneWants wants n 0 → FirstTask key wants (suc n) (suc n)
-  alone w h = record {
+  -- Task n comes first if none of the others that wants a slice ranks before it;
+  comes-first : 0 < wants n → ((j : ℕ) → j < n → 0 < wants j → ranksBefore key j n ≡ false) → FirstTask key wants (suc n) (suc n)
+  comes-first w others = record {
     task = n;
     is = refl;
     below = omega arith;
     wanting = w;
     none-before = λ j l p.
-        ⊎-elim
-        (λ b. unwanted j j refl (h .none j b) p)
-        (λ b. later-place-later key j n (omega (arith, ap key b)) (omega arith))
-        (below-suc j n l);
+        ⊎-elim (λ b. others j b p) (λ b. later-place-later key j n (omega (arith, ap key b)) (omega arith)) (below-suc j n l);
   }
 
-  ahead : (i : ℕ) → 0 < wants n → FirstTask key wants n (suc i) → key n < key i → FirstTask key wants (suc n) (suc n)
-  ahead i w h l = record {
-    task = n;
-    is = refl;
-    below = omega arith;
-    wanting = w;
-    none-before = λ j lj p.
-        ⊎-elim
-        (λ b. larger-key-later key j n (omega (arith, not-before-key key j (h .task) (h .none-before j b p), ap key (suc-inj (h .is)))))
-        (λ b. later-place-later key j n (omega (arith, ap key b)) (omega arith))
-        (below-suc j n lj);
-  }
-
-  behind : (i : ℕ) → FirstTask key wants n (suc i) → key i ≤ key n → FirstTask key wants (suc n) (suc i)
-  behind i h l = record {
+  -- and whoever was first stays so if task n, where it wants a slice, does not rank before.
+  stays-first : (e : ℕ) (h : FirstTask key wants n e) → (0 < wants n → ranksBefore key n (h .task) ≡ false) → FirstTask key wants (suc n) e
+  stays-first e h behind = record {
     task = h .task;
     is = h .is;
     below = omega arith;
     wanting = h .wanting;
-    none-before = λ j lj p.
-        ⊎-elim
-        (λ b. h .none-before j b p)
-        (λ b. later-place-later key j (h .task) (omega (arith, ap key b, ap key (suc-inj (h .is)))) (omega arith))
-        (below-suc j n lj);
+    none-before = λ j l p. ⊎-elim (λ b. h .none-before j b p) (λ (b : j ≡ n). rw b (behind (rw b at p))) (below-suc j n l);
   }
 
   one-more : (w e : ℕ) → wants n ≡ w → IsFirst key wants n e → IsFirst key wants (suc n) (firstOf key w n e)
   unfolding IsFirst firstOf choose
-  one-more zero e q h = kept e q h
-  one-more (suc w) zero q (inl h) = inr (alone (omega arith) h)
+  one-more zero e q (inl h) =
+      inl (record { idle = h .idle; none = λ j l. ⊎-elim (λ b. h .none j b) (λ b. ap wants b ∙ q) (below-suc j n l) })
+  one-more zero e q (inr h) = inr (stays-first e h (λ p. absurd (omega arith)))
+  one-more (suc w) zero q (inl h) = inr (comes-first (omega arith) (λ j l p. absurd (omega (arith, h .none j l))))
   one-more (suc w) zero q (inr h) = absurd (omega arith)
   one-more (suc w) (suc i) q (inl h) = absurd (omega arith)
   one-more (suc w) (suc i) q (inr h) =
+      let same = ap key (suc-inj (h .is)) in
       ⊎-elim
-      (λ (l : key i ≤ key n). rw (le-ltb (key n) (key i) l) (inr (behind i h l)))
-      (λ (l : key n < key i). rw (lt-ltb (key n) (key i) l) (inr (ahead i (omega arith) h l)))
+      (λ (l : key i ≤ key n).
+      rw (le-ltb (key n) (key i) l) (inr (stays-first (suc i) h (λ _. later-place-later key n (h .task) (omega arith) (omega arith)))))
+      (λ (l : key n < key i).
+      rw (lt-ltb (key n) (key i) l)
+      (inr (comes-first (omega arith) (λ j lj p. larger-key-later key j n (omega (arith, not-before-key key j (h .task) (h .none-before j lj p)))))))
       (le-or-lt (key i) (key n))
 
 module _ (key wants : ℕ → ℕ) where

@@ -1,12 +1,13 @@
 -- The work that tasks ranking before a given rank still want: in every slice it falls by exactly one, unless it is 0.
-use mathlib.Core.Path.{_≡_, sym, ap, _∙_}
+use mathlib.Core.Path.{_≡_, refl, sym, ap, _∙_}
+use mathlib.Core.Bool.{Bool}
 use mathlib.Core.Logic.{_⊎_, inl, inr, ⊎-elim}
 use Prim.Native.Nat.{ℕ, suc, pred, _+_, _-_, _%_, _≤_, _<_}
 use native.Mathlib.Omega.{arith}
-use native.Mathlib.Nat.{suc-inj, ne-of-lt}
+use native.Mathlib.Nat.{suc-inj}
 use lib.Dec.{ltb, eqb}
 use borrow.Author.Tests.{lt-ltb, le-ltb, ltb-false, eq-eqb, ne-eqb}
-use Rattle.basis.specs.Choose.{choose, choose-yes, choose-no, le-or-lt, eq-or-ne}
+use Rattle.basis.specs.Choose.{choose, choose-yes, choose-no, le-or-lt, eq-or-ne, ltb-same}
 use Rattle.basis.specs.Sum.{sum, sum-zero, sum-ext, sum-le, sum-add, sum-more-at}
 use Rattle.basis.specs.Slices.{mod-at}
 use Rattle.plan.specs.Plan.{gets, IsFirst, NoneWants, FirstTask}
@@ -78,6 +79,16 @@ pub rank-only : (n : ℕ) (key : ℕ → ℕ) (i j : ℕ) → i < n → j < n �
 unfolding rank
 rank-only n key i j li lj e = sym (mod-at n (omega arith) (key i) i li) ∙ ap (λ (x : ℕ). x % n) e ∙ mod-at n (omega arith) (key j) j lj
 
+-- the work up to task j's own rank is that before it and the task's own
+pub before-own : (n : ℕ) (key f : ℕ → ℕ) (j : ℕ) → j < n → before n key (rank n key j) f + f j ≡ before n key (suc (rank n key j)) f
+unfolding before part
+before-own n key f j lj =
+    sum-more-at (part n key (suc (rank n key j)) f) (part n key (rank n key j) f) n j (f j) lj
+    (omega (arith, part-out n key (rank n key j) f j (omega arith), part-in n key (suc (rank n key j)) f j (omega arith)))
+    (λ i li ne.
+    let other : rank n key i ≡ rank n key j → ⊥ = λ q. ne (rank-only n key i j li lj q) in
+    ap (λ (b : Bool). choose b (f i) 0) (ltb-same (rank n key i) (rank n key j) (rank n key i) (suc (rank n key j)) (λ l. omega arith) (λ l. omega arith)))
+
 -- f after a slice with entry e
 unfoldable pub after : ℕ → (ℕ → ℕ) → ℕ → ℕ
 after e f j = f j - gets e j
@@ -147,26 +158,18 @@ module _ (n : ℕ) (key wants : ℕ → ℕ) (e : ℕ) (law : IsFirst key wants 
       (le-or-lt ρ (rank n key (k .task))))
       law
 
+  after-own : (j : ℕ) → after e wants j ≡ wants j - gets e j
+  unfolding after
+  after-own j = refl
+
   -- So does the work before task j with any part r of its own added.
   pub level-falls : (j r : ℕ) → j < n → r ≤ wants j → before n key (rank n key j) (after e wants) + (r - gets e j) ≡ pred (before n key (rank n key j) wants + r)
-  unfolding IsFirst
   level-falls j r lj lr =
-      ⊎-elim
-      (λ (k : NoneWants wants n e). omega (arith, k .none j lj, none-wants k (rank n key j), work-falls (rank n key j)))
-      (λ (k : FirstTask key wants n e).
-      ⊎-elim
-      (λ (o : rank n key j ≤ rank n key (k .task)).
-      ⊎-elim
-      (λ (q : rank n key j ≡ rank n key (k .task)).
-      let same : j ≡ k .task = rank-only n key j (k .task) lj (k .below) q in
-      omega (arith, gets-one e j (k .is ∙ ap suc (sym same)), none-before (k .task) (rank n key j) (k .is) o, work-falls (rank n key j)))
-      (λ (ne : rank n key j ≡ rank n key (k .task) → ⊥).
-      ⊎-elim
-      (λ (z : wants j ≡ 0). omega (arith, none-before (k .task) (rank n key j) (k .is) o, work-falls (rank n key j)))
-      (λ (nz : wants j ≡ 0 → ⊥). absurd (omega (arith, got-first (k .task) j (k .is) lj (omega arith))))
-      (eq-or-ne (wants j) 0))
-      (eq-or-ne (rank n key j) (rank n key (k .task))))
-      (λ (b : rank n key (k .task) < rank n key j).
-      omega (arith, one-done (k .task) (rank n key j) (k .is) b, gets-none e j (λ q. ne-of-lt b (ap (rank n key) (suc-inj (sym (k .is) ∙ q))))))
-      (le-or-lt (rank n key j) (rank n key (k .task))))
-      law
+      omega (
+        arith,
+        work-falls (rank n key j),
+        work-falls (suc (rank n key j)),
+        before-own n key wants j lj,
+        before-own n key (after e wants) j lj,
+        after-own j,
+      )

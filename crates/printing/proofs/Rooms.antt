@@ -1,12 +1,12 @@
 -- That every place stays far below 2 ^ 64.
-use mathlib.Core.Path.{_≡_, ap}
+use mathlib.Core.Path.{_≡_, refl, ap}
 use mathlib.Core.List.{List}
 use mathlib.Core.Logic.{⊎-elim}
-use Prim.Native.Nat.{ℕ, zero, suc, _^_, _≤_, _<_}
+use Prim.Native.Nat.{ℕ, zero, suc, _^_, _≤_, _<_, min}
 use native.Mathlib.Omega.{arith}
 use lib.IntN.{ℤ}
 use lib.ListN.{length, getD, take, length-take}
-use lib.Seq.{length-take-le, getD-take, take-all}
+use lib.Seq.{getD-take}
 use mir.Syntax.{w32, w64}
 use mir.Val.{Fits, SFits}
 use Rattle.basis.specs.Choose.{eq-or-ne}
@@ -34,17 +34,11 @@ module _ (table : List ℕ) where
   pub slice-room : (n t : ℕ) {old mid : List ℕ} {at r : ℕ} → Room (recordsTo table n) at → Put (recordsTo table t) at old mid r → t < n → Room (sliceRecord t (getD table t 0)) r
   slice-room n t h p l = record { room = omega (arith, h .room, p .next, records-next table t, records-grow n (suc t) l) }
 
-  pub table-room : length table ≤ 2 ^ 32 → ((i : ℕ) → i < length table → getD table i 0 < 256) → {old mid : List ℕ} {r : ℕ} → Put tableHeader 0 old mid r → Room (recordsTo table (length table)) r
+  pub table-room : (n : ℕ) → n ≤ 2 ^ 32 → ((i : ℕ) → getD table i 0 < 256) → {old mid : List ℕ} {r : ℕ} → Put tableHeader 0 old mid r → Room (recordsTo table n) r
   unfolding tableHeader crlf ascii
-  table-room few bytes p = record {
-    room = omega (arith, p .next, records-length table 16 (length table) (λ t l. slice-length 9 t (getD table t 0) (omega arith) (bytes t l)));
+  table-room n few bytes p = record {
+    room = omega (arith, p .next, records-length table 16 n (λ t l. slice-length 9 t (getD table t 0) (omega arith) (bytes t)));
   }
-
--- the same of a table's first entries
-pub cycle-room : (table : List ℕ) (cycle : ℕ) → cycle ≤ 2 ^ 32 → ((i : ℕ) → getD table i 0 < 256) → cycle ≤ length table → {old mid : List ℕ} {r : ℕ} → Put tableHeader 0 old mid r → Room (recordsTo (take cycle table) (length (take cycle table))) r
-cycle-room table cycle few bytes l =
-    let long = length-take-le cycle table l in
-    table-room (take cycle table) (omega arith) (λ i li. rw (getD-take cycle table i 0 (omega arith)) (bytes i))
 
 -- ---- what a caller may rely on
 pub refusal-room-enough : (number task : ℕ) (margin : ℤ) → Fits w32 number → Fits w64 task → SFits w32 margin → {old new : List ℕ} {r : ℕ} → Written (refusalText number task margin) old new r → r ≤ 66
@@ -59,6 +53,11 @@ table-room-enough table cycle bytes W l =
           (λ i li. rw (getD-take cycle table i 0 (omega (arith, length-take cycle table))) (bytes i)),
     )
 
--- A table that ends before the cycle does is printed whole.
-pub whole-table : (table : List ℕ) (cycle : ℕ) → length table ≤ cycle → {old new : List ℕ} {r : ℕ} → Written (tableText table) old new r → Written (tableText (take cycle table)) old new r
-whole-table table cycle l W = rw (take-all cycle table l) W
+-- The records of a table's first entries are those of the table that ends there.
+records-take : (table : List ℕ) (cycle n : ℕ) → n ≤ cycle → recordsTo (take cycle table) n ≡ recordsTo table n
+unfolding recordsTo
+records-take table cycle zero l = refl
+records-take table cycle (suc n) l = rw (records-take table cycle n (omega arith), getD-take cycle table n 0 l)
+
+pub cycle-records : (table : List ℕ) (cycle : ℕ) → recordsTo (take cycle table) (length (take cycle table)) ≡ recordsTo table (min cycle (length table))
+cycle-records table cycle = rw length-take (records-take table cycle (min cycle (length table)) (omega arith))

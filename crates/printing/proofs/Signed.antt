@@ -1,7 +1,7 @@
--- A signed number of 32 bits: its sign, and its magnitude in 64 bits.
+-- A signed number of 32 bits: its magnitude in 64 bits, and its text.
 use mathlib.Core.Path.{_≡_, refl, ap, _∙_}
 use mathlib.Core.Bool.{true, false, true≢false}
-use mathlib.Core.List.{[], _∷_}
+use mathlib.Core.List.{_∷_}
 use Prim.Native.Nat.{_^_, _≤_}
 use native.Mathlib.Omega.{arith}
 use lib.Dec.{T}
@@ -11,7 +11,7 @@ use mir.Syntax.{w32, w64}
 use mir.Val.{Fits, SFits, toZ, ofZ}
 use mir.Facts.{toZ-ofZ}
 use borrow.Author.Tests.{ltb-true}
-use Rattle.printing.specs.Text.{ascii, sign}
+use Rattle.printing.specs.Text.{ascii, decimal, sign, signedDecimal}
 
 -- the number as it is read from its 32 bits, and then in 64
 abbrev pub read32 : ℤ → ℤ
@@ -20,27 +20,21 @@ read32 z = toZ w32 (ofZ w32 z)
 abbrev pub read64 : ℤ → ℤ
 read64 z = toZ w64 (ofZ w64 z)
 
-less-is : (z : ℤ) → ltZ z (pos 0) ≡ true → pos 0 -ℤ z ≡ pos (natAbs z)
-less-is (pos n) h = absurd (omega (arith, ltb-true n 0 h))
-less-is (negsuc n) h = ap pos (omega arith)
-
-not-below : (z : ℤ) → ltZ z (pos 0) ≡ false → T (nonNeg z)
-not-below (pos n) h = tt
-not-below (negsuc n) h = absurd (true≢false h)
-
 pub magnitude-small : (z : ℤ) → SFits w32 z → natAbs z ≤ 2 ^ 31
 magnitude-small (pos n) f = omega (arith, f .sfits)
 magnitude-small (negsuc n) f = omega (arith, f .sfits)
 
-sign-of-below : (z : ℤ) → ltZ z (pos 0) ≡ true → sign z ≡ 45 ∷ []
-unfolding sign ascii
-sign-of-below (pos n) h = absurd (omega (arith, ltb-true n 0 h))
-sign-of-below (negsuc n) h = refl
+-- Below zero, zero less the number is its magnitude, and the text is "-" and the magnitude;
+below-zero : (z : ℤ) → ltZ z (pos 0) ≡ true → (pos 0 -ℤ z ≡ pos (natAbs z)) × (signedDecimal z ≡ 45 ∷ decimal (natAbs z))
+unfolding signedDecimal sign ascii
+below-zero (pos n) h = absurd (omega (arith, ltb-true n 0 h))
+below-zero (negsuc n) h = (ap pos (omega arith), refl)
 
-sign-of-others : (z : ℤ) → ltZ z (pos 0) ≡ false → sign z ≡ []
-unfolding sign
-sign-of-others (pos n) h = refl
-sign-of-others (negsuc n) h = absurd (true≢false h)
+-- any other number is its own magnitude, and so is its text.
+not-below : (z : ℤ) → ltZ z (pos 0) ≡ false → T (nonNeg z) × (signedDecimal z ≡ decimal (natAbs z))
+unfolding signedDecimal sign
+not-below (pos n) h = (tt, refl)
+not-below (negsuc n) h = absurd (true≢false h)
 
 module _ (z : ℤ) (f : SFits w32 z) where
   pub back32 : read32 z ≡ z
@@ -49,36 +43,28 @@ module _ (z : ℤ) (f : SFits w32 z) where
   pub fits64 : SFits w64 (read32 z)
   fits64 = rw back32 (record { sfits = omega (arith, f .sfits) })
 
-  back64 : read64 (read32 z) ≡ z
-  back64 = toZ-ofZ {w = w64} fits64 ∙ back32
-
   small : Fits w64 (natAbs z)
   small = record { fits = omega (arith, magnitude-small z f) }
 
-  -- Below zero, zero less the number is its magnitude.
   module _ (below : ltZ (read32 z) (pos 0) ≡ true) where
     less : pos 0 -ℤ read64 (read32 z) ≡ pos (natAbs z)
-    less = ap (λ (x : ℤ). pos 0 -ℤ x) back64 ∙ less-is z (rw back32 at below)
+    less = ap (λ (x : ℤ). pos 0 -ℤ x) (toZ-ofZ {w = w64} fits64 ∙ back32) ∙ below-zero z (rw back32 at below) .0
 
     pub less-fits : SFits w64 (pos 0 -ℤ read64 (read32 z))
     less-fits = rw less (record { sfits = omega (arith, magnitude-small z f) })
 
-    less-back : read64 (pos 0 -ℤ read64 (read32 z)) ≡ pos (natAbs z)
+    pub less-back : read64 (pos 0 -ℤ read64 (read32 z)) ≡ pos (natAbs z)
     less-back = toZ-ofZ {w = w64} less-fits ∙ less
 
     pub less-as-u64 : T (nonNeg (read64 (pos 0 -ℤ read64 (read32 z)))) × Fits w64 (natAbs (read64 (pos 0 -ℤ read64 (read32 z))))
     less-as-u64 = rw less-back (tt, small)
 
-    pub less-magnitude : natAbs (read64 (pos 0 -ℤ read64 (read32 z))) ≡ natAbs z
-    less-magnitude = ap natAbs less-back
+    pub text-below : signedDecimal z ≡ 45 ∷ decimal (natAbs (read64 (pos 0 -ℤ read64 (read32 z))))
+    text-below = rw less-back (below-zero z (rw back32 at below) .1)
 
-    pub minus-sign : sign z ≡ 45 ∷ []
-    minus-sign = sign-of-below z (rw back32 at below)
-
-  -- Any other number is its own magnitude.
   module _ (above : ltZ (read32 z) (pos 0) ≡ false) where
     pub as-u64 : T (nonNeg (read32 z)) × Fits w64 (natAbs (read32 z))
-    as-u64 = rw back32 (not-below z (rw back32 at above), small)
+    as-u64 = rw back32 (not-below z (rw back32 at above) .0, small)
 
-    pub no-sign : sign z ≡ []
-    no-sign = sign-of-others z (rw back32 at above)
+    pub text-above : signedDecimal z ≡ decimal (natAbs (read32 z))
+    text-above = rw back32 (not-below z (rw back32 at above) .1)

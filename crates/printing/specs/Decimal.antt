@@ -33,15 +33,6 @@ unfolding decimal digitsIn
 decimal-more n h =
     choose-no _ _ _ (le-ltb n 10 h) ∙ ap (λ (ds : List ℕ). ds ++ (digit (n % 10) ∷ [])) (turns-same n (suc (n / 10)) (n / 10) (omega arith) (omega arith))
 
--- What holds of one digit and of one digit more holds of every decimal.
-by-digits : (Q : ℕ → Type 0) → ((n : ℕ) → n < 10 → Q n) → ((n : ℕ) → 10 ≤ n → Q (n / 10) → Q n) → (k n : ℕ) → n < k → Q n
-by-digits Q one more zero n l = absurd (omega arith)
-by-digits Q one more (suc k) n l =
-    ⊎-elim
-    (λ (h : 10 ≤ n). more n h (by-digits Q one more k (n / 10) (omega arith)))
-    (λ (h : n < 10). one n h)
-    (le-or-lt 10 n)
-
 -- ---- reading back
 -- The number that digits stand for, most significant first, after those that made up n.
 unfoldable pub readOn : ℕ → List ℕ → ℕ
@@ -71,62 +62,57 @@ digit-is : (d : ℕ) → d < 10 → IsDigit (digit d)
 unfolding digit
 digit-is d l = record { low = omega arith; high = omega arith }
 
--- ---- each part, digit by digit
-read-back : (n : ℕ) → valueOf (decimal n) ≡ n
-unfolding valueOf readOn digit
-read-back n = by-digits (λ m. readOn 0 (decimal m) ≡ m) one more (suc n) n (omega arith)
-  where
-    one : (m : ℕ) → m < 10 → readOn 0 (decimal m) ≡ m
-    one m l = rw (decimal-one m l) (omega arith)
-
-    more : (m : ℕ) → 10 ≤ m → readOn 0 (decimal (m / 10)) ≡ m / 10 → readOn 0 (decimal m) ≡ m
-    more m l h = rw (decimal-more m l, read-append 0 (decimal (m / 10)) (digit (m % 10) ∷ []), h) (omega arith)
-
 length-more : (n : ℕ) → 10 ≤ n → length (decimal n) ≡ length (decimal (n / 10)) + 1
 length-more n l = ap length (decimal-more n l) ∙ length-append (decimal (n / 10)) (digit (n % 10) ∷ [])
 
 length-one : (n : ℕ) → n < 10 → length (decimal n) ≡ 1
 length-one n l = ap length (decimal-one n l)
 
-not-empty : (n : ℕ) → 0 < length (decimal n)
-not-empty n =
-    ⊎-elim (λ (l : 10 ≤ n). omega (arith, length-more n l)) (λ (l : n < 10). omega (arith, length-one n l)) (le-or-lt 10 n)
+-- ---- the theorem, digit by digit
+-- Right, and the first digit of a number above 0 is not "0".
+unfoldable Right : ℕ → Type 0
+Right n = IsDecimal n (decimal n) × (0 < n → 48 < getD (decimal n) 0 0)
 
-all-digits : (n i : ℕ) → i < length (decimal n) → IsDigit (getD (decimal n) i 0)
-all-digits n = by-digits (λ m. (i : ℕ) → i < length (decimal m) → IsDigit (getD (decimal m) i 0)) one more (suc n) n (omega arith)
-  where
-    one : (m : ℕ) → m < 10 → (i : ℕ) → i < length (decimal m) → IsDigit (getD (decimal m) i 0)
-    one m l i li =
-        let e : i ≡ 0 = omega (arith, length-one m l) in
-        rw (e, decimal-one m l) (digit-is m l)
+one-digit : (n : ℕ) → n < 10 → Right n
+unfolding Right valueOf readOn digit
+one-digit n l =
+    rw (decimal-one n l) (
+      record {
+        value = omega arith;
+        some = omega arith;
+        digits = λ i li. let e : i ≡ 0 = omega arith in rw e (digit-is n l);
+        no-leading-zero = λ z. absurd (omega arith);
+      },
+      λ p. omega arith,
+    )
 
-    more : (m : ℕ) → 10 ≤ m → ((i : ℕ) → i < length (decimal (m / 10)) → IsDigit (getD (decimal (m / 10)) i 0)) → (i : ℕ) → i < length (decimal m) → IsDigit (getD (decimal m) i 0)
-    more m l h i li =
-        rw (decimal-more m l)
-        (⊎-elim
-        (λ (b : i < length (decimal (m / 10))). rw (List·getD-append (decimal (m / 10)) (digit (m % 10) ∷ []) 0 i b) (h i b))
-        (λ (e : i ≡ length (decimal (m / 10))). rw (e, getD-append-seam (decimal (m / 10)) (digit (m % 10)) [] 0) (digit-is (m % 10) (omega arith)))
-        (below-suc i (length (decimal (m / 10))) (omega (arith, length-more m l))))
+one-digit-more : (n : ℕ) → 10 ≤ n → Right (n / 10) → Right n
+unfolding Right valueOf readOn digit
+one-digit-more n l h =
+    let len = length-append (decimal (n / 10)) (digit (n % 10) ∷ []) in
+    let leads : 48 < getD (decimal (n / 10) ++ (digit (n % 10) ∷ [])) 0 0 = rw (List·getD-append (decimal (n / 10)) (digit (n % 10) ∷ []) 0 0 (h .0 .some)) (h .1 (omega arith)) in
+    rw (decimal-more n l) (
+      record {
+        value = rw (read-append 0 (decimal (n / 10)) (digit (n % 10) ∷ []), h .0 .value) (omega arith);
+        some = omega arith;
+        digits = λ i li.
+            ⊎-elim
+            (λ (b : i < length (decimal (n / 10))). rw (List·getD-append (decimal (n / 10)) (digit (n % 10) ∷ []) 0 i b) (h .0 .digits i b))
+            (λ (e : i ≡ length (decimal (n / 10))). rw (e, getD-append-seam (decimal (n / 10)) (digit (n % 10)) [] 0) (digit-is (n % 10) (omega arith)))
+            (below-suc i (length (decimal (n / 10))) (omega arith));
+        no-leading-zero = λ _. leads;
+      },
+      λ _. leads,
+    )
 
-first-digit : (n : ℕ) → 0 < n → 48 < getD (decimal n) 0 0
-unfolding digit
-first-digit n = by-digits (λ m. 0 < m → 48 < getD (decimal m) 0 0) one more (suc n) n (omega arith)
-  where
-    one : (m : ℕ) → m < 10 → 0 < m → 48 < getD (decimal m) 0 0
-    one m l p = rw (decimal-one m l) (omega arith)
+right : (k n : ℕ) → n < k → Right n
+right zero n l = absurd (omega arith)
+right (suc k) n l =
+    ⊎-elim (λ (h : 10 ≤ n). one-digit-more n h (right k (n / 10) (omega arith))) (λ (h : n < 10). one-digit n h) (le-or-lt 10 n)
 
-    more : (m : ℕ) → 10 ≤ m → (0 < m / 10 → 48 < getD (decimal (m / 10)) 0 0) → 0 < m → 48 < getD (decimal m) 0 0
-    more m l h p =
-        rw (decimal-more m l, List·getD-append (decimal (m / 10)) (digit (m % 10) ∷ []) 0 0 (not-empty (m / 10))) (h (omega arith))
-
--- ---- the theorem
 pub decimal-right : (n : ℕ) → IsDecimal n (decimal n)
-decimal-right n = record {
-  value = read-back n;
-  some = not-empty n;
-  digits = all-digits n;
-  no-leading-zero = λ l. first-digit n (⊎-elim (λ (h : 10 ≤ n). omega arith) (λ (h : n < 10). absurd (omega (arith, length-one n h))) (le-or-lt 10 n));
-}
+unfolding Right
+decimal-right n = right (suc n) n (omega arith) .0
 
 -- ---- nothing else is one
 read-positive : (n : ℕ) (ds : List ℕ) → 0 < n → 0 < readOn n ds
@@ -149,44 +135,28 @@ unfolding valueOf readOn
 last-value n text m e h =
     sym (ap (readOn 0) (last-apart text m e) ∙ read-append 0 (take m text) (getD text m 0 ∷ [])) ∙ h .value
 
-last-digit : (n v d : ℕ) → IsDigit d → v * 10 + (d - 48) ≡ n → d ≡ digit (n % 10)
-unfolding digit
-last-digit n v d h e = omega arith
-
-one-byte : (n : ℕ) (text : List ℕ) → length text ≡ 1 → IsDecimal n text → text ≡ decimal n
+only : (k n : ℕ) → n < k → (text : List ℕ) (m : ℕ) → length text ≡ suc m → IsDecimal n text → text ≡ decimal n
 unfolding valueOf readOn digit
-one-byte n text e h =
+only zero n l text m e h = absurd (omega arith)
+only (suc k) n l text zero e h =
     let d = h .digits 0 (omega arith) in
     let v = last-value n text 0 e h in
     last-apart text 0 e ∙ ap (λ (x : ℕ). x ∷ []) (omega arith) ∙ sym (decimal-one n (omega arith))
-
-front-decimal : (n : ℕ) (text : List ℕ) (m : ℕ) → length text ≡ suc (suc m) → IsDecimal n text → (10 ≤ n) × IsDecimal (n / 10) (take (suc m) text)
-front-decimal n text m e h =
+only (suc k) n l text (suc m) e h =
     let len = length-take-le (suc m) text (omega arith) in
     let first : 48 < getD (take (suc m) text) 0 0 = rw (getD-take (suc m) text 0 0 (omega arith)) (h .no-leading-zero (omega arith)) in
     let d = h .digits (suc m) (omega arith) in
     let v = last-value n text (suc m) e h in
-    let p = value-positive (take (suc m) text) (omega arith) first in (
-      omega arith,
-      record {
-        value = omega arith;
-        some = omega arith;
-        digits = λ i l. rw (getD-take (suc m) text i 0 (omega arith)) (h .digits i (omega arith));
-        no-leading-zero = λ l. first;
-      },
-    )
-
-only : (k n : ℕ) → n < k → (text : List ℕ) (m : ℕ) → length text ≡ suc m → IsDecimal n text → text ≡ decimal n
-only zero n l text m e h = absurd (omega arith)
-only (suc k) n l text zero e h = one-byte n text e h
-only (suc k) n l text (suc m) e h =
-    let front = front-decimal n text m e h in
-    let len = length-take-le (suc m) text (omega arith) in
-    let d = h .digits (suc m) (omega arith) in
-    let v = last-value n text (suc m) e h in
+    let p = value-positive (take (suc m) text) (omega arith) first in
+    let front : IsDecimal (n / 10) (take (suc m) text) = record {
+      value = omega arith;
+      some = omega arith;
+      digits = λ i l. rw (getD-take (suc m) text i 0 (omega arith)) (h .digits i (omega arith));
+      no-leading-zero = λ l. first;
+    } in
     last-apart text (suc m) e
-    ∙ ap₂ (λ (ds : List ℕ) (x : ℕ). ds ++ (x ∷ [])) (only k (n / 10) (omega arith) (take (suc m) text) m len (front .1)) (last-digit n (valueOf (take (suc m) text)) (getD text (suc m) 0) d v)
-    ∙ sym (decimal-more n (front .0))
+    ∙ ap₂ (λ (ds : List ℕ) (x : ℕ). ds ++ (x ∷ [])) (only k (n / 10) (omega arith) (take (suc m) text) m len front) (omega arith)
+    ∙ sym (decimal-more n (omega arith))
 
 pub decimal-only : (n : ℕ) (text : List ℕ) → IsDecimal n text → text ≡ decimal n
 decimal-only n text h = only (suc n) n (omega arith) text (length text - 1) (omega (arith, h .some)) h

@@ -1,10 +1,9 @@
 // Records by RFC 4180 into a lent buffer: a refusal, and a table.
 ghost use mathlib.Core.List.{[], _∷_};
 ghost use lib.ListN.{length, take};
-ghost use lib.IntN.{natAbs};
 ghost use mathlib.Core.Path.{_≡_};
-ghost use Prim.Native.Nat.{_≤_};
-ghost use Rattle.printing.specs.Text.{decimal, field, sign, signedDecimal, refusalRecord, refusalText, sliceRecord, recordsTo, tableText};
+ghost use Prim.Native.Nat.{_≤_, min};
+ghost use Rattle.printing.specs.Text.{decimal, field, signedDecimal, refusalRecord, refusalText, sliceRecord, recordsTo, tableText};
 ghost use Rattle.printing.specs.Written.{Written};
 ghost use Rattle.printing.specs.Shapes.{Room, Put};
 
@@ -46,30 +45,17 @@ fn put_decimal(n: u64, out: &mut [u8], at: usize) -> usize
     }
 }
 
-fn put_sign(z: i32, out: &mut [u8], at: usize) -> usize
-    requires { ⌜ Room (sign z) at ⌝ }
-    ensures { λ r. ⌜ Put (sign z) at (now (out .entry)) (now (out .exit)) r ⌝ }
-{
-    if z < 0 { put(b'-', out, at) } else { at }
-}
-
-// In 64 bits, where the least number of 32 bits has a magnitude too.
-fn magnitude(z: i32) -> u64
-    ensures { λ r. ⌜ r ≡ natAbs z ⌝ }
-{
-    if z < 0 {
-        (0 - z as i64) as u64
-    } else {
-        z as u64
-    }
-}
-
+// The magnitude in 64 bits, where the least number of 32 bits has one too.
 fn put_signed(z: i32, out: &mut [u8], at: usize) -> usize
     requires { ⌜ Room (signedDecimal z) at ⌝ }
     ensures { λ r. ⌜ Put (signedDecimal z) at (now (out .entry)) (now (out .exit)) r ⌝ }
 {
-    let next = put_sign(z, out, at);
-    put_decimal(magnitude(z), out, next)
+    if z < 0 {
+        let next = put(b'-', out, at);
+        put_decimal((0 - z as i64) as u64, out, next)
+    } else {
+        put_decimal(z as u64, out, at)
+    }
 }
 
 // A field that another one follows.
@@ -100,19 +86,26 @@ fn put_slice(t: usize, entry: u8, out: &mut [u8], at: usize) -> usize
     put_text(b"\r\n", out, end)
 }
 
-// A record for each slice of a table, numbered from 0.
-fn put_slices(table: &[u8], out: &mut [u8], at: usize) -> usize
-    requires { ⌜ Room (recordsTo (now table) (length (now table))) at ⌝ }
-    ensures { λ r. ⌜ Put (recordsTo (now (table .entry)) (length (now (table .entry)))) at (now (out .entry)) (now (out .exit)) r ⌝ }
+// A record for each of the first slices of a table, numbered from 0.
+fn put_slices(table: &[u8], count: usize, out: &mut [u8], at: usize) -> usize
+    requires { ⌜ Room (recordsTo (now table) count) at ⌝ }
+    requires { ⌜ count ≤ length (now table) ⌝ }
+    ensures { λ r. ⌜ Put (recordsTo (now (table .entry)) count) at (now (out .entry)) (now (out .exit)) r ⌝ }
 {
     let mut next = at;
     let mut t = 0;
-    while t < table.len() {
+    while t < count {
         let after = put_slice(t, table[t], out, next);
         next = after;
         t += 1;
     }
     next
+}
+
+fn shorter(a: usize, b: usize) -> usize
+    ensures { λ r. ⌜ r ≡ min a b ⌝ }
+{
+    if a < b { a } else { b }
 }
 
 // A refusal, as much of it as there is room for: the header, and one record. Answers the length of the whole text.
@@ -131,10 +124,6 @@ pub fn write_table(table: &[u8], cycle: u32, out: &mut [u8]) -> usize
     ensures { λ r. ⌜ (cycle ≤ 4096 → r ≤ 40972) ⌝ }
 {
     let next = put_text(b"slice,task\r\n", out, 0);
-    let count = cycle as usize;
-    if count < table.len() {
-        put_slices(&table[..count], out, next)
-    } else {
-        put_slices(table, out, next)
-    }
+    let count = shorter(cycle as usize, table.len());
+    put_slices(table, count, out, next)
 }

@@ -10,6 +10,7 @@ use lib.ListN.{length, getD, replicate, length-replicate, getD-replicate, List·
 use borrow.Author.Tests.{lt-ltb, le-ltb}
 use Rattle.basis.specs.Choose.{choose-yes, choose-no, le-or-lt}
 use Rattle.basis.specs.Bytes.{at, overwrite, overwrite-length, overwrite-at, overwrite-kept}
+use Rattle.basis.specs.Answer.{refusal, none}
 use Rattle.plan.specs.Plan.{Demand, OnTimeUpTo, deadline, job, takes}
 use Rattle.plan.specs.Run.{had-first}
 use Rattle.plan.specs.Progress.{nothing-before-release}
@@ -19,7 +20,7 @@ use Rattle.tasks.specs.List.{taskAt, planOf}
 use Rattle.tasks.specs.Bounds.{cycleOf, jobSum, jobsOf}
 use Rattle.tasks.specs.Kept.{KeepsBounds, broken-tells, plan-sound, cycle-pos, period-divides-cycle}
 use Rattle.verdict.specs.declared.Verdict.{Verdict}
-use Rattle.verdict.specs.Verdict.{verdictOf, numbers}
+use Rattle.verdict.specs.Verdict.{verdictOf, verdictAnswer}
 use Rattle.start.specs.declared.Asked.{Asked}
 use Rattle.run.specs.declared.Mode.{Mode}
 use Rattle.run.specs.declared.State.{State}
@@ -27,11 +28,10 @@ use Rattle.start.specs.declared.Begun.{Begun}
 use Rattle.start.specs.declared.Started.{Started}
 use Rattle.run.specs.State.{Job, fresh, periodOf, runtimeOf, currentOf, jobOf, offset, jobCount}
 use Rattle.run.specs.Sound.{SoundState}
-use Rattle.start.specs.Start.{modeOf, startState, begunOf, begunState, begunLog, Begins, begunNumbers}
+use Rattle.start.specs.Start.{modeOf, startState, begunOf, begunState, begunLog, Begins, begunAnswer}
 use Rattle.run.specs.Places.{job-within}
 use Rattle.verdict.specs.declared.Verdict.the-variants as verdict
-use Rattle.verdict.specs.Answers.{ByBounds, ForLateness, OnTimeAll, verdict-tells}
-use Rattle.promises.specs.Demand2.{accepted-as}
+use Rattle.verdict.specs.Answers.{ByBounds, ForLateness, OnTimeAll, verdict-tells, accepted-as}
 use Rattle.promises.specs.Demand3.{placeOf}
 use Rattle.promises.specs.Carries.{Carries, offset-is, job-in}
 use Rattle.promises.specs.Reached.{fresh-has, Reached, byte-none}
@@ -46,8 +46,8 @@ pub record Accepted (l : TaskList) (supply : ℕ) (asked : Asked) (clock : ℕ) 
   pub log-is : log′ ≡ overwrite (λ _. 0) (jobsOf l) log
 
 pub start-accepted : (l : TaskList) (supply : ℕ) (asked : Asked) (clock : ℕ) (log log′ : List ℕ) (r : Started)
-    → Begins l supply asked clock log log′ r → begunNumbers (r .answer) .number ≡ 0 → Accepted l supply asked clock log log′ r
-unfolding begunOf begunState begunLog begunNumbers
+    → Begins l supply asked clock log log′ r → begunAnswer (r .answer) .number ≡ 0 → Accepted l supply asked clock log log′ r
+unfolding begunOf begunState begunLog begunAnswer
 start-accepted l supply asked clock log log′ r B z =
     ⊎-elim
     (λ (h : ByBounds l supply (verdictOf l supply)). never (h .is) (λ n. let T = broken-tells l supply (h .number) (h .task) (h .broken) in T .some (sym (T .number-is) ∙ n)))
@@ -64,13 +64,13 @@ start-accepted l supply asked clock log log′ r B z =
       state-is = B .state ∙ ap (λ (v : Verdict). begunState l asked clock v (length log)) (h .is) ∙ choose-no _ _ _ (le-ltb (length log) (jobsOf l) le);
       log-is = B .bytes ∙ ap (λ (v : Verdict). begunLog v log) (h .is) ∙ choose-no _ _ _ (le-ltb (length log) (jobsOf l) le);
     })
-    (λ (lt : length log < jobsOf l). absurd (omega (arith, ap (λ (x : Begun). begunNumbers x .number) (answer ∙ choose-yes _ _ _ (lt-ltb (length log) (jobsOf l) lt)))))
+    (λ (lt : length log < jobsOf l). absurd (omega (arith, ap (λ (x : Begun). begunAnswer x .number) (answer ∙ choose-yes _ _ _ (lt-ltb (length log) (jobsOf l) lt)))))
     (le-or-lt (jobsOf l) (length log))))
     (verdict-tells l supply)
   where
     -- a refused list is refused by the start
     never : {A : Type 0} {number task : ℕ} {margin : ℤ} → verdictOf l supply ≡ verdict.Refused number task margin → (number ≡ 0 → ⊥) → A
-    never e some = absurd (some (sym (ap (λ (x : Begun). begunNumbers x .number) (B .answer ∙ ap (λ (v : Verdict). begunOf v (length log)) e)) ∙ z))
+    never e some = absurd (some (sym (ap (λ (x : Begun). begunAnswer x .number) (B .answer ∙ ap (λ (v : Verdict). begunOf v (length log)) e)) ∙ z))
 
 -- ---- the jobs of a list
 -- Run-times are from one slice up, so that every job takes one at least.
@@ -85,7 +85,7 @@ unfolding jobSum planOf
 offset-listed l s C i li = offset-is C i li
 
 -- ---- the state of a start
-all-alike : {A : Type 0} (x : A) (i : ℕ) → getD (replicate 16 x) i x ≡ x
+pub all-alike : {A : Type 0} (x : A) (i : ℕ) → getD (replicate 16 x) i x ≡ x
 all-alike x i = ⊎-elim (λ (h : 16 ≤ i). List·getD-eq-default (replicate 16 x) x {n = i} (omega (arith, length-replicate 16 x))) (λ (h : i < 16). getD-replicate 16 i x x h) (le-or-lt 16 i)
 
 module _ (l : TaskList) (supply : ℕ) (K : KeepsBounds l supply) (m : Mode) (clock : ℕ) where
@@ -193,8 +193,8 @@ module _ (l : TaskList) (supply : ℕ) (K : KeepsBounds l supply) (m : Mode) (cl
 
 -- An accepted list starts, if the log has room for its jobs.
 pub accepted-starts : (l : TaskList) (supply : ℕ) (asked : Asked) (clock : ℕ) (log log′ : List ℕ) (r : Started)
-    → Begins l supply asked clock log log′ r → numbers (verdictOf l supply) .number ≡ 0 → jobsOf l ≤ length log → begunNumbers (r .answer) .number ≡ 0
-unfolding begunOf begunNumbers
+    → Begins l supply asked clock log log′ r → verdictAnswer (verdictOf l supply) .number ≡ 0 → jobsOf l ≤ length log → begunAnswer (r .answer) .number ≡ 0
+unfolding begunOf begunAnswer none refusal
 accepted-starts l supply asked clock log log′ r B z room =
-    ap (λ (x : Begun). begunNumbers x .number)
+    ap (λ (x : Begun). begunAnswer x .number)
     (B .answer ∙ ap (λ (v : Verdict). begunOf v (length log)) (accepted-as l supply z .is) ∙ choose-no _ _ _ (le-ltb (length log) (jobsOf l) room))

@@ -99,12 +99,12 @@ module _ {P : Plan} {cycle : ℕ} {s : State} (C : Carries P cycle s) where
     no-release-follows l = release-test ∙ ne-eqb (suc (age P i p)) (P .period i) (λ e. omega arith)
 
     -- ---- after a step
-    module _ (tab : List ℕ) (clock report : ℕ) (g : List ℕ) (A : StepAccepted s tab clock report g) where
+    module _ (tab : List ℕ) (clock report : ℕ) (g : List ℕ) (went : StepAccepted s tab clock report g) where
       -- its job is as the rules say,
       pub job-then : jobOf (stateAfter s (running s tab) clock report) i ≡ jobAfter s (running s tab) report i
-      job-then = job-after s tab clock report g A (C .jobs-room) i (in-state i li)
+      job-then = job-after s tab clock report g went (C .jobs-room) i (in-state i li)
 
       -- and the byte of any job but the current one as it was.
       pub other-stays : (k : ℕ) → k < cycle / P .period i → (k ≡ job P i p → ⊥) → getD (logAfter s (running s tab) report g) (offset s i + k) 0 ≡ getD g (offset s i + k) 0
       other-stays k lk ne =
-          log-other-job s tab clock report g A i k (in-state i li) (subst (λ (x : ℕ). k < x) (sym (jobs-is i li)) lk) (λ e. ne (e ∙ current-is))
+          log-other-job s tab clock report g went i k (in-state i li) (subst (λ (x : ℕ). k < x) (sym (jobs-is i li)) lk) (λ e. ne (e ∙ current-is))

@@ -1,90 +1,152 @@
--- Demand 1: what breaks a rule is refused by its number, and after a refusal table, log and state hold what they held before.
--- A result byte of 0 means no result. (That every input gets an answer is that no public function has a requires.)
-use mathlib.Core.Path.{_≡_, refl, ap, _∙_}
-use mathlib.Core.Bool.{false}
+-- Demand 1, the statement: what breaks a rule is refused by its number, in a fixed order, and after a refusal table, log and state
+-- hold what they held before; what is not refused is done as the rules say. Demand1Holds has the proof. (That every input gets an
+-- answer is that no public function has a requires. What an accepted verdict and its table are is demand 2.)
+use mathlib.Core.Path.{_≡_}
+use mathlib.Core.Bool.{true, false}
 use mathlib.Core.List.{List}
-use Prim.Native.Nat.{ℕ, suc}
-use lib.Dec.{ltb}
-use lib.ListN.{length}
-use borrow.Author.Tests.{eq-eqb, ne-eqb}
-use Rattle.basis.specs.Choose.{choose, bool-cases, choose-yes, choose-no, eq-or-ne}
-use mathlib.Core.Logic.{⊎-elim}
-use mathlib.Core.Bool.{true}
+use mathlib.Core.Logic.{_↔_}
+use Prim.Native.Nat.{ℕ, suc, _+_, _*_, _≤_, _<_}
+use lib.ListN.{length, getD}
+use Rattle.basis.specs.Bytes.{at}
+use Rattle.basis.specs.Rules.{GoesBy, no-more, _then_}
 use Rattle.tasks.specs.declared.TaskList.{TaskList}
-use Rattle.tasks.specs.Bounds.{found, answer, boundsOf, boundsNumbers}
+use Rattle.tasks.specs.List.{taskAt}
+use Rattle.tasks.specs.Bounds.{boundsOf, boundsAnswer, cycleOf, jobsOf}
 use Rattle.verdict.specs.declared.Verdict.{Verdict}
-use Rattle.verdict.specs.declared.Verdict.the-variants.{Accepted, Refused}
-use Rattle.verdict.specs.Verdict.{verdictOf, numbers}
-use Rattle.verdict.specs.Table.{tabled, Built}
+use Rattle.verdict.specs.Verdict.{verdictOf, verdictAnswer}
+use Rattle.verdict.specs.Table.{Built}
+use Rattle.start.specs.declared.Asked.{Asked}
+use Rattle.start.specs.declared.Asked.the-variants as mode-asked
+use Rattle.start.specs.declared.Started.{Started}
+use Rattle.start.specs.Start.{Begins, begunAnswer}
+use Rattle.run.specs.declared.Mode.the-variants as mode
 use Rattle.run.specs.declared.State.{State}
 use Rattle.run.specs.declared.Next.{Next}
-use Rattle.run.specs.State.{sound, within, every}
-use Rattle.run.specs.Step.{stepRefusal, nextState, nextLog, Stepped, closedNumber, closed-number}
-use Rattle.start.specs.declared.Asked.{Asked}
-use Rattle.start.specs.declared.Begun.{Begun}
-use Rattle.start.specs.declared.Started.{Started}
-use Rattle.start.specs.Start.{noRun, begunOf, begunState, begunLog, Begins, begunNumbers}
+use Rattle.run.specs.State.{periodOf, runtimeOf, currentOf, jobOf, fresh, place}
+use Rattle.run.specs.Sound.{SoundState}
+use Rattle.run.specs.StateAfter.{HandedOn, Room}
+use Rattle.run.specs.Who.{running, whoOf, runnerAnswer}
+use Rattle.run.specs.Step.{Stepped, closedAnswer}
+use Rattle.units.specs.Conversion.{runtimeSlices, periodSlices, slicesOf, slicesAnswer}
+use Rattle.units.specs.Laws.{Fewest}
+use Rattle.readings.specs.declared.Entry.{Entry}
+use Rattle.readings.specs.declared.Entry.the-variants.{Idle, Task, NoEntry}
 use Rattle.readings.specs.declared.Logged.the-variants.{NoResult, Done}
-use Rattle.readings.specs.Reading.{loggedOf}
-use Rattle.readings.specs.Laws.{reads-results, done-is-one}
+use Rattle.readings.specs.Reading.{entryOf, loggedOf}
+use Rattle.bench.specs.Drive.{taskIn}
+use Rattle.promises.specs.Program.{Program}
+use Rattle.promises.specs.Refusals.{boundsRules, listRules, buildRules, startRules, whoRules, stepRules, no-length, not-whole}
 
--- What breaks a bound is refused by the number that is found first. (The task named is `broken-tells` of the tasks' Kept.)
-pub bounds-named : (l : TaskList) (supply : ℕ) → (boundsNumbers (boundsOf l supply) .number ≡ found l supply .number)
-unfolding boundsNumbers boundsOf answer choose
-bounds-named l supply =
-    ⊎-elim
-    (λ (z : found l supply .number ≡ 0). rw (eq-eqb (found l supply .number) 0 z, z))
-    (λ (nz : found l supply .number ≡ 0 → ⊥). rw (ne-eqb (found l supply .number) 0 nz))
-    (eq-or-ne (found l supply .number) 0)
+-- ---- a start
+-- A state of no tasks in table mode, every number 0 and no job ended, which is not sound.
+pub record NoRun (s : State) : Type 0 where
+  pub count-0 : s .count ≡ 0
+  pub cycle-0 : s .cycle ≡ 0
+  pub position-0 : s .position ≡ 0
+  pub clock-0 : s .clock ≡ 0
+  pub by-table : s .mode ≡ mode.Table
+  pub periods-0 : (i : ℕ) → periodOf s i ≡ 0
+  pub runtimes-0 : (i k : ℕ) → runtimeOf s i k ≡ 0
+  pub none-ended : (i : ℕ) → jobOf s i ≡ fresh
+  pub not-sound : SoundState s → ⊥
 
--- A refused build writes nothing.
-pub build-refused : (l : TaskList) (supply : ℕ) (old new : List ℕ) (v : Verdict) → Built l supply old new v → (numbers v .number ≡ 0 → ⊥) → new ≡ old
-unfolding numbers tabled
-build-refused l supply old new (Accepted c j t m) B nz = absurd (nz refl)
-build-refused l supply old new (Refused n t m) B nz = B .bytes
+-- What an accepted start gives: the list's tasks, every job fresh, slice 0, the mode asked for (none named: by the table) and the
+-- clock reading; places beyond the task count are 0, with no job ended. The first job-count bytes of the log are 0, the others stay.
+pub record BegunRun (l : TaskList) (asked : Asked) (clock : ℕ) (log log′ : List ℕ) (s : State) : Type 0 where
+  pub count-is : s .count ≡ l .count
+  pub cycle-is : s .cycle ≡ cycleOf l
+  pub position-0 : s .position ≡ 0
+  pub clock-is : s .clock ≡ clock
+  pub filling-asked : asked ≡ mode-asked.Filling → s .mode ≡ mode.Filling
+  pub table-asked : asked ≡ mode-asked.Table → s .mode ≡ mode.Table
+  pub none-named : asked ≡ mode-asked.Unnamed → s .mode ≡ mode.Table
+  pub periods-are : (i : ℕ) → i < l .count → periodOf s i ≡ taskAt (l .tasks) i .period
+  pub runtimes-are : (i k : ℕ) → i < l .count → runtimeOf s i k ≡ taskAt (l .tasks) i .runtime
+  pub beyond-0 : (i k : ℕ) → l .count ≤ i → (periodOf s i ≡ 0) × (runtimeOf s i k ≡ 0)
+  pub jobs-fresh : (i : ℕ) → jobOf s i ≡ fresh
+  pub log-cleared : (x : ℕ) → x < jobsOf l → getD log′ x 0 ≡ 0
+  pub log-beyond : (x : ℕ) → jobsOf l ≤ x → getD log′ x 0 ≡ getD log x 0
+  pub log-length : length log′ ≡ length log
 
--- A refused start writes nothing and gives the state of no tasks,
-pub record NotBegun (log log′ : List ℕ) (r : Started) : Type 0 where
-  pub log-kept : log′ ≡ log
-  pub no-run : r .state ≡ noRun
+-- ---- who runs
+-- By the table, the task of entry p unless its current job has ended (then idle). Entries are read as `readings` does.
+pub record RunsByTable (s : State) (entry : Entry) (task : ℕ) : Type 0 where
+  pub idle : entry ≡ Idle → task ≡ 0
+  pub ended : (i : ℕ) → entry ≡ Task (suc i) → jobOf s i .ended ≡ true → task ≡ 0
+  pub unended : (i : ℕ) → entry ≡ Task (suc i) → jobOf s i .ended ≡ false → task ≡ suc i
 
-pub start-refused : (l : TaskList) (supply : ℕ) (asked : Asked) (clock : ℕ) (log log′ : List ℕ) (r : Started)
-    → Begins l supply asked clock log log′ r → (begunNumbers (r .answer) .number ≡ 0 → ⊥) → NotBegun log log′ r
-unfolding begunNumbers begunOf begunState begunLog
-start-refused l supply asked clock log log′ r B nz = go (verdictOf l supply) refl
-  where
-    go : (v : Verdict) → verdictOf l supply ≡ v → NotBegun log log′ r
-    go (Refused n t m) q = record { log-kept = B .bytes ∙ ap (λ (x : Verdict). begunLog x log) q; no-run = B .state ∙ ap (λ (x : Verdict). begunState l asked clock x (length log)) q }
-    go (Accepted c j t m) q =
-        ⊎-elim
-        (λ (e : ltb (length log) j ≡ true).
-        record {
-          log-kept = B .bytes ∙ ap (λ (x : Verdict). begunLog x log) q ∙ choose-yes _ _ _ e;
-          no-run = B .state ∙ ap (λ (x : Verdict). begunState l asked clock x (length log)) q ∙ choose-yes _ _ _ e;
-        })
-        (λ (e : ltb (length log) j ≡ false).
-        absurd (nz (ap (λ (x : Begun). begunNumbers x .number) (B .answer ∙ ap (λ (x : Verdict). begunOf x (length log)) q ∙ choose-no _ _ _ e))))
-        (bool-cases (ltb (length log) j))
+-- Filling, the first-ranking task whose current job has not ended: shorter period first, then the earlier in the list.
+pub record RunsFilling (s : State) (task : ℕ) : Type 0 where
+  pub idle : task ≡ 0 → (j : ℕ) → j < s .count → jobOf s j .ended ≡ true
+  pub unended : (i : ℕ) → task ≡ suc i → (i < s .count) × (jobOf s i .ended ≡ false)
+  pub shortest : (i j : ℕ) → task ≡ suc i → j < s .count → jobOf s j .ended ≡ false → periodOf s i ≤ periodOf s j
+  pub earliest : (i j : ℕ) → task ≡ suc i → j < s .count → jobOf s j .ended ≡ false → periodOf s j ≡ periodOf s i → i ≤ j
 
--- which is not sound.
-pub no-run-unsound : sound noRun ≡ false
-unfolding sound noRun within every
-no-run-unsound = refl
+-- ---- a step
+-- There is a deadline of task i at p + 1, which is its next release.
+abbrev pub Due : State → ℕ → Type 0
+Due s i = suc (s .position) ≡ suc (currentOf s i) * periodOf s i
 
--- A refused step gives back the state that it got, bit for bit, and writes nothing.
-pub record NotStepped (s : State) (log log′ : List ℕ) (r : Next) (number : ℕ) : Type 0 where
-  pub answer : closedNumber (r .answer) ≡ number
-  pub state-kept : r .state ≡ s
-  pub log-kept : log′ ≡ log
+-- Task i ran and this slice completes its run-time.
+abbrev pub Completes : State → List ℕ → ℕ → Type 0
+Completes s table i = (running s table ≡ suc i) × (jobOf s i .used + 1 ≡ runtimeOf s i (currentOf s i))
 
-pub step-refused : (s : State) (tab : List ℕ) (clock report : ℕ) (log log′ : List ℕ) (r : Next) (n : ℕ) → stepRefusal s tab clock report log ≡ suc n → Stepped s tab clock report log log′ r
-    → NotStepped s log log′ r (suc n)
-unfolding nextState nextLog
-step-refused s tab clock report log log′ r n e S = record { answer = ap closedNumber (S .answer) ∙ closed-number (stepRefusal s tab clock report log) ∙ e; state-kept = rw e at (S .state); log-kept = rw e at (S .bytes) }
+-- What an accepted step does: the clock reading is stored, the position rises by one (HandedOn), and for each task,
+pub record ClosedSlice (s : State) (table : List ℕ) (clock report : ℕ) (log log′ : List ℕ) (after : State) : Type 0 where
+  pub handed : HandedOn s after clock
+  -- in the log: finished writes 1; still working in the slice that completes the run-time 2; then a job with a deadline there that
+  -- has not ended gets 3; no other byte changes.
+  pub done : (i : ℕ) → running s table ≡ suc i → report ≡ 1 → getD log′ (place s i) 0 ≡ 1
+  pub over : (i : ℕ) → Completes s table i → report ≡ 0 → getD log′ (place s i) 0 ≡ 2
+  pub late : (i : ℕ) → i < s .count → Due s i → jobOf s i .ended ≡ false → (running s table ≡ suc i → report ≡ 0) → (Completes s table i → ⊥) → getD log′ (place s i) 0 ≡ 3
+  pub still-open : (i : ℕ) → i < s .count → (Due s i → ⊥) → (running s table ≡ suc i → report ≡ 0) → (Completes s table i → ⊥) → getD log′ (place s i) 0 ≡ getD log (place s i) 0
+  pub had-ended : (i : ℕ) → i < s .count → jobOf s i .ended ≡ true → getD log′ (place s i) 0 ≡ getD log (place s i) 0
+  pub no-other : (x : ℕ) → ((i : ℕ) → i < s .count → x ≡ place s i → ⊥) → getD log′ x 0 ≡ getD log x 0
+  pub log-length : length log′ ≡ length log
+  -- of its job: a fresh one where there is a deadline; else one slice used for the task that ran, and nothing for the others.
+  pub fresh-job : (i : ℕ) → i < s .count → Due s i → jobOf after i ≡ fresh
+  pub one-used : (i : ℕ) → running s table ≡ suc i → (Due s i → ⊥) → jobOf after i .used ≡ jobOf s i .used + 1
+  pub ended-then : (i : ℕ) → running s table ≡ suc i → (Due s i → ⊥) → report ≡ 1 → jobOf after i .ended ≡ true
+  pub ended-complete : (i : ℕ) → Completes s table i → (Due s i → ⊥) → jobOf after i .ended ≡ true
+  pub open-still : (i : ℕ) → running s table ≡ suc i → (Due s i → ⊥) → report ≡ 0 → (Completes s table i → ⊥) → jobOf after i .ended ≡ false
+  pub others-same : (i : ℕ) → i < s .count → (running s table ≡ suc i → ⊥) → (Due s i → ⊥) → jobOf after i ≡ jobOf s i
 
--- A byte of 0 reads as no result, and only a 1 reads as done.
-pub zero-is-no-result : loggedOf 0 ≡ NoResult
-zero-is-no-result = reads-results .0
-
-pub done-is-a-one : (byte : ℕ) → loggedOf byte ≡ Done → byte ≡ 1
-done-is-a-one = done-is-one
+pub record Demand1 : Type 0 where
+  -- Refusals 1 to 6, 1 to 7 and 1 to 8; a refused build writes nothing.
+  pub bounds : (l : TaskList) (supply : ℕ) → GoesBy (boundsRules l supply) (boundsAnswer (boundsOf l supply))
+  pub judge : (l : TaskList) (supply : ℕ) → GoesBy (listRules l supply) (verdictAnswer (verdictOf l supply))
+  pub build : (l : TaskList) (supply : ℕ) (old new : List ℕ) (v : Verdict) → Built l supply old new v → GoesBy (buildRules l supply (length old)) (verdictAnswer v)
+  pub build-refused : (l : TaskList) (supply : ℕ) (old new : List ℕ) (v : Verdict) → Built l supply old new v → (verdictAnswer v .number ≡ 0 → ⊥) → new ≡ old
+  -- A start: 1 to 7, then 12; refused, it writes nothing and gives the state of no run.
+  pub start : (l : TaskList) (supply : ℕ) (asked : Asked) (clock : ℕ) (log log′ : List ℕ) (r : Started)
+      → Begins l supply asked clock log log′ r → GoesBy (startRules l supply (length log)) (begunAnswer (r .answer))
+  pub start-refused : (l : TaskList) (supply : ℕ) (asked : Asked) (clock : ℕ) (log log′ : List ℕ) (r : Started)
+      → Begins l supply asked clock log log′ r → (begunAnswer (r .answer) .number ≡ 0 → ⊥) → (log′ ≡ log) × NoRun (r .state)
+  pub start-begun : (l : TaskList) (supply : ℕ) (asked : Asked) (clock : ℕ) (log log′ : List ℕ) (r : Started)
+      → Begins l supply asked clock log log′ r → begunAnswer (r .answer) .number ≡ 0 → BegunRun l asked clock log log′ (r .state)
+  -- Asking who runs: 9 to 11; refused, task 0.
+  pub who : (s : State) (table : List ℕ) → GoesBy (whoRules s table) (runnerAnswer (whoOf s table))
+  pub who-by-table : (s : State) (table : List ℕ) → runnerAnswer (whoOf s table) .number ≡ 0 → s .mode ≡ mode.Table → RunsByTable s (entryOf (at table (s .position)) (s .count)) (runnerAnswer (whoOf s table) .task)
+  pub no-entry-above : (byte count : ℕ) → count ≤ 16 → (count < byte) ↔ (entryOf byte count ≡ NoEntry byte)
+  pub who-filling : (s : State) (table : List ℕ) → runnerAnswer (whoOf s table) .number ≡ 0 → s .mode ≡ mode.Filling → RunsFilling s (runnerAnswer (whoOf s table) .task)
+  -- A step: 9 to 14; refused, it gives back the state it got and writes nothing. (Clock readings are of 32 bits.)
+  pub step : (s : State) (table : List ℕ) (clock report : ℕ) (log log′ : List ℕ) (r : Next)
+      → Stepped s table clock report log log′ r → s .clock ≤ 4294967295 → GoesBy (stepRules s table clock report log) (closedAnswer (r .answer))
+  pub step-refused : (s : State) (table : List ℕ) (clock report : ℕ) (log log′ : List ℕ) (r : Next)
+      → Stepped s table clock report log log′ r → (closedAnswer (r .answer) .number ≡ 0 → ⊥) → (r .state ≡ s) × (log′ ≡ log)
+  pub step-closed : (s : State) (table : List ℕ) (clock report : ℕ) (log log′ : List ℕ) (r : Next)
+      → Stepped s table clock report log log′ r → closedAnswer (r .answer) .number ≡ 0 → Room s → ClosedSlice s table clock report log log′ (r .state)
+  -- Conversions: 17; refused, the answer is 0. A run-time takes the fewest slices that are no shorter, a period exactly its slices.
+  pub runtime : (micros slice : ℕ) → GoesBy (no-length slice then no-more) (slicesAnswer (runtimeSlices micros slice))
+  pub period : (micros slice : ℕ) → GoesBy (not-whole micros slice then no-more) (slicesAnswer (periodSlices micros slice))
+  pub runtime-fewest : (micros slice : ℕ) → 0 < slice → Fewest micros slice (slicesOf (runtimeSlices micros slice))
+  pub period-exact : (n slice : ℕ) → 0 < slice → slicesOf (periodSlices (n * slice) slice) ≡ n
+  -- The bench's task from microseconds: what the conversions give, and 0 for what they refuse.
+  pub task-whole : (n runtime memory slice : ℕ) → 0 < slice → taskIn (n * slice) runtime memory slice .period ≡ n
+  pub task-runtime : (period micros memory slice : ℕ) → 0 < slice → Fewest micros slice (taskIn period micros memory slice .runtime)
+  pub task-refused : (micros runtime memory slice : ℕ) → (slicesAnswer (periodSlices micros slice) .number ≡ 0 → ⊥) → taskIn micros runtime memory slice .period ≡ 0
+  -- A result byte of 0 means no result, and only a 1 reads as done.
+  pub zero-is-no-result : loggedOf 0 ≡ NoResult
+  pub done-is-one : (byte : ℕ) → loggedOf byte ≡ Done → byte ≡ 1
+  -- The program: 16, then 15, then the list's rules; what it prints is the record of the refusal, or the table.
+  pub program : Program

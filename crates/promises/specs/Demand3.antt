@@ -14,13 +14,13 @@ use Rattle.tasks.specs.List.{planOf}
 use Rattle.tasks.specs.Bounds.{cycleOf, jobSum, jobsOf}
 use Rattle.start.specs.declared.Asked.{Asked}
 use Rattle.start.specs.declared.Started.{Started}
-use Rattle.start.specs.Start.{modeOf, Begins, begunNumbers}
+use Rattle.start.specs.Start.{modeOf, Begins, begunAnswer}
 use Rattle.run.specs.declared.Mode.the-variants.{Table, Filling}
 use Rattle.run.specs.declared.State.{State}
 use Rattle.run.specs.declared.Next.{Next}
 use Rattle.run.specs.State.{currentOf}
 use Rattle.run.specs.Who.{running}
-use Rattle.run.specs.Step.{closedNumber}
+use Rattle.run.specs.Step.{closedAnswer}
 use Rattle.bench.specs.Course.{Steps}
 
 -- The jobs of task i in the cycle, counted from 0 as tasks are.
@@ -50,7 +50,7 @@ pub record FullRun (l : TaskList) : Type 0 where
   pub logs : ℕ → List ℕ
   pub answers : ℕ → Next
   pub begins : Begins l supply asked clock log (logs 0) begun
-  pub accepted : begunNumbers (begun .answer) .number ≡ 0
+  pub accepted : begunAnswer (begun .answer) .number ≡ 0
   pub from-start : states 0 ≡ begun .state
   pub steps : Steps (cycleOf l) tab need states logs answers
 
@@ -83,7 +83,7 @@ EndsNoLater l F G = (i k : ℕ) → i < l .count → k < jobsIn l i → endIn l 
 
 pub record Demand3 : Type 0 where
   -- No step of a full run is refused.
-  pub no-step-refused : (l : TaskList) (F : FullRun l) (p : ℕ) → p < cycleOf l → closedNumber (F .answers p .answer) ≡ 0
+  pub no-step-refused : (l : TaskList) (F : FullRun l) (p : ℕ) → p < cycleOf l → closedAnswer (F .answers p .answer) .number ≡ 0
   -- Each job that needs no more than it declared is logged done (1), each other one over (2): none late (3), none without a
   -- result (0).
   pub logged : (l : TaskList) (F : FullRun l) (i k : ℕ) → i < l .count → k < jobsIn l i

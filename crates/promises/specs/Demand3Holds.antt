@@ -11,6 +11,7 @@ use lib.ListN.{getD}
 use borrow.Author.Tests.{eq-eqb, ne-eqb, lt-leb}
 use Rattle.basis.specs.Choose.{choose, le-or-lt, eq-or-ne}
 use Rattle.basis.specs.Least.{least, least-law}
+use Rattle.basis.specs.Answer.{refusal, none}
 use Rattle.plan.specs.Plan.{Sound, Demand, release, deadline, job, had, entry, takes, filling, byTable, HadBy, OnTime, OnTimeUpTo}
 use Rattle.plan.specs.Counting.{deadline-within}
 use Rattle.plan.specs.Progress.{elapsed, hadUpTo, settled, nothing-before-release, grows-in-own, others-stay, on-time-had}
@@ -21,10 +22,11 @@ use Rattle.tasks.specs.Bounds.{cycleOf, jobsOf}
 use Rattle.tasks.specs.Kept.{plan-sound, cycle-pos, period-divides-cycle}
 use Rattle.run.specs.declared.Mode.the-variants.{Table, Filling}
 use Rattle.run.specs.declared.State.{State}
+use Rattle.run.specs.declared.Closed.{Closed}
 use Rattle.run.specs.declared.Closed.the-variants as Closed
 use Rattle.run.specs.State.{currentOf, offset, jobCount}
 use Rattle.run.specs.Who.{running}
-use Rattle.run.specs.Step.{closedNumber}
+use Rattle.run.specs.Step.{closedAnswer}
 use Rattle.start.specs.Start.{modeOf}
 use Rattle.promises.specs.Demand3.{jobsIn, FullRun, placeOf, isLogged, endIn, EndsWith, NeedsNoMore, EndsNoLater, Demand3}
 use Rattle.promises.specs.Carries.{current-is}
@@ -61,9 +63,9 @@ module _ (l : TaskList) (F : FullRun l) where
   reached (suc p) lp = rw (F .steps .handed p lp) (goes-on p lp (reached p (omega arith)) .1)
 
   -- No step of it is refused.
-  pub no-step-refused : (p : ℕ) → p < cycleOf l → closedNumber (F .answers p .answer) ≡ 0
-  unfolding closedNumber
-  no-step-refused p lp = ap closedNumber (goes-on p lp (reached p (omega arith)) .0)
+  pub no-step-refused : (p : ℕ) → p < cycleOf l → closedAnswer (F .answers p .answer) .number ≡ 0
+  unfolding closedAnswer none refusal
+  no-step-refused p lp = ap (λ (x : Closed). closedAnswer x .number) (goes-on p lp (reached p (omega arith)) .0)
 
   on-time-run : OnTimeUpTo (planOf l) d (cycleOf l)
   on-time-run = run-on-time (planOf l) S (cycleOf l) (F .need) (begun-as .on-time) (modeOf (F .asked))

@@ -1,6 +1,5 @@
 -- Each public contract determines the answer and every lent byte afterwards: any two answers that keep it are equal. Each theorem
--- names the function whose contract it repeats. The functions over a lent run of records and their likes for a list by value keep
--- the contract of the function they go to, with the list of the records, so its theorem is theirs.
+-- names the function whose contract it repeats.
 use mathlib.Core.Path.{_≡_, sym, ap, ap₂, _∙_}
 use mathlib.Core.List.{List}
 use mathlib.Core.Bool.{Bool}
@@ -12,6 +11,8 @@ use Rattle.basis.specs.Choose.{choose}
 use Rattle.plan.specs.Plan.{Demand}
 use Rattle.tasks.specs.declared.TaskList.{TaskList}
 use Rattle.tasks.specs.declared.Bounds.{Bounds}
+use Rattle.tasks.specs.List.{listOf}
+use Rattle.tasks.specs.Euclid.{lcmOf}
 use Rattle.tasks.specs.Bounds.{boundsOf}
 use Rattle.verdict.specs.declared.Verdict.{Verdict}
 use Rattle.verdict.specs.Verdict.{verdictOf}
@@ -32,11 +33,9 @@ use Rattle.readings.specs.declared.Refusal.{Refusal}
 use Rattle.readings.specs.declared.Logged.{Logged}
 use Rattle.readings.specs.Reading.{entryOf, refusalOf, loggedOf}
 use Rattle.units.specs.declared.Slices.{Slices}
-use Rattle.units.specs.Conversion.{paper, runtimeSlices, periodSlices}
-use Rattle.units.specs.Laws.{paper-tells}
+use Rattle.units.specs.Conversion.{runtimeSlices, periodSlices}
 use Rattle.records.specs.declared.Parsed.{Parsed}
-use Rattle.records.specs.Grammar.{Reads}
-use Rattle.records.specs.Grammar.{paper as readPaper}
+use Rattle.records.specs.Grammar.{readOf, Reads}
 use Rattle.records.specs.Reading.{reads-one}
 use Rattle.printing.specs.Text.{refusalText, tableText}
 use Rattle.printing.specs.Written.{Written, written-one}
@@ -49,24 +48,38 @@ use Rattle.bench.specs.Drive.{taskIn, begun, Drives}
 pub one-answer : {A : Type 0} {x r r′ : A} → r ≡ x → r′ ≡ x → r ≡ r′
 one-answer e e′ = e ∙ sym e′
 
--- tasks: check_bounds
+-- tasks: lcm, check_bounds
+pub lcm : (a b r r′ : ℕ) → r ≡ lcmOf a b → r′ ≡ lcmOf a b → r ≡ r′
+lcm a b r r′ e e′ = one-answer e e′
+
 pub check-bounds : (l : TaskList) (supply : ℕ) (r r′ : Bounds) → r ≡ boundsOf l supply → r′ ≡ boundsOf l supply → r ≡ r′
 check-bounds l supply r r′ e e′ = one-answer e e′
 
--- verdict: judge; lent: judge_lent, judge_list
+-- verdict: judge; lent: judge_list
 pub judge : (l : TaskList) (supply : ℕ) (r r′ : Verdict) → r ≡ verdictOf l supply → r′ ≡ verdictOf l supply → r ≡ r′
 judge l supply r r′ e e′ = one-answer e e′
 
--- verdict: build, with the table; lent: build_lent, build_list
+-- verdict: build, with the table; lent: build_list
 pub build : (l : TaskList) (supply : ℕ) (old new new′ : List ℕ) (r r′ : Verdict) → Built l supply old new r → Built l supply old new′ r′ → (r ≡ r′) × (new ≡ new′)
 build l supply old new new′ r r′ B B′ =
     (one-answer (B .answer) (B′ .answer), B .bytes ∙ ap (λ (v : Verdict). tabled l v old) (one-answer (B .answer) (B′ .answer)) ∙ sym (B′ .bytes))
 
--- start: start, with the log; lent: start_lent, start_list
+-- start: start, with the log; lent: start_list
 pub start : (l : TaskList) (supply : ℕ) (asked : Asked) (clock : ℕ) (log new new′ : List ℕ) (r r′ : Started)
     → Begins l supply asked clock log new r → Begins l supply asked clock log new′ r′ → (r ≡ r′) × (new ≡ new′)
 start l supply asked clock log new new′ r r′ B B′ =
     (ap₂ (λ (a : Begun) (s : State). record { answer = a; state = s }) (one-answer (B .answer) (B′ .answer)) (one-answer (B .state) (B′ .state)), one-answer (B .bytes) (B′ .bytes))
+
+-- lent: judge_lent, build_lent, start_lent, of the list that the records make
+pub judge-lent : (ts : List Task) (supply : ℕ) (r r′ : Verdict) → r ≡ verdictOf (listOf ts) supply → r′ ≡ verdictOf (listOf ts) supply → r ≡ r′
+judge-lent ts supply r r′ e e′ = one-answer e e′
+
+pub build-lent : (ts : List Task) (supply : ℕ) (old new new′ : List ℕ) (r r′ : Verdict) → Built (listOf ts) supply old new r → Built (listOf ts) supply old new′ r′ → (r ≡ r′) × (new ≡ new′)
+build-lent ts supply = build (listOf ts) supply
+
+pub start-lent : (ts : List Task) (supply : ℕ) (asked : Asked) (clock : ℕ) (log new new′ : List ℕ) (r r′ : Started)
+    → Begins (listOf ts) supply asked clock log new r → Begins (listOf ts) supply asked clock log new′ r′ → (r ≡ r′) × (new ≡ new′)
+start-lent ts supply = start (listOf ts) supply
 
 -- run: who
 pub who : (s : State) (table : List ℕ) (r r′ : Runner) → r ≡ whoOf s table → r′ ≡ whoOf s table → r ≡ r′
@@ -98,14 +111,14 @@ pub read-logged : (byte : ℕ) (r r′ : Logged) → r ≡ loggedOf byte → r�
 read-logged byte r r′ e e′ = one-answer e e′
 
 -- units: runtime_slices, period_slices
-pub runtime-slices : (micros slice : ℕ) (r r′ : Slices) → paper r ≡ runtimeSlices micros slice → paper r′ ≡ runtimeSlices micros slice → r ≡ r′
-runtime-slices micros slice r r′ e e′ = paper-tells r r′ (one-answer e e′)
+pub runtime-slices : (micros slice : ℕ) (r r′ : Slices) → r ≡ runtimeSlices micros slice → r′ ≡ runtimeSlices micros slice → r ≡ r′
+runtime-slices micros slice r r′ e e′ = one-answer e e′
 
-pub period-slices : (micros slice : ℕ) (r r′ : Slices) → paper r ≡ periodSlices micros slice → paper r′ ≡ periodSlices micros slice → r ≡ r′
-period-slices micros slice r r′ e e′ = paper-tells r r′ (one-answer e e′)
+pub period-slices : (micros slice : ℕ) (r r′ : Slices) → r ≡ periodSlices micros slice → r′ ≡ periodSlices micros slice → r ≡ r′
+period-slices micros slice r r′ e e′ = one-answer e e′
 
 -- records: read_list
-pub read-list : (input : List ℕ) (r r′ : Parsed) → Reads input (readPaper r) → Reads input (readPaper r′) → r ≡ r′
+pub read-list : (input : List ℕ) (r r′ : Parsed) → Reads input (readOf r) → Reads input (readOf r′) → r ≡ r′
 read-list input r r′ R R′ = reads-one r r′ R R′
 
 -- printing: write_refusal, write_table, with the lent bytes

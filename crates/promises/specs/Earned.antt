@@ -43,7 +43,7 @@ pub record Honest (P : Plan) (cycle : ℕ) (s : State) (g : List ℕ) : Type 0 w
   pub tells : (i k : ℕ) → i < P .count → k < cycle / P .period i → Tells P s g i k
 
 -- ---- one accepted step
-module _ (P : Plan) (S : Sound P) (cycle : ℕ) (s : State) (tab : List ℕ) (clock report : ℕ) (g : List ℕ) (A : StepAccepted s tab clock report g) (H : Honest P cycle s g) where
+module _ (P : Plan) (S : Sound P) (cycle : ℕ) (s : State) (tab : List ℕ) (clock report : ℕ) (g : List ℕ) (went : StepAccepted s tab clock report g) (H : Honest P cycle s g) where
   abbrev ran : ℕ
   ran = running s tab
 
@@ -67,7 +67,7 @@ module _ (P : Plan) (S : Sound P) (cycle : ℕ) (s : State) (tab : List ℕ) (cl
     li-state = in-state (H .carries) i li
 
     here : Tells P s g i k
-    here = H .tells i k li (job-in (H .carries) (H .is-sound) i (s .position) li (omega (arith, A .asked .not-over, H .carries .cycle-is)))
+    here = H .tells i k li (job-in (H .carries) (H .is-sound) i (s .position) li (omega (arith, went .asked .not-over, H .carries .cycle-is)))
 
     here-before : getD g (place s i) 0 ≡ byteOf s g i k
     unfolding byteOf
@@ -83,46 +83,46 @@ module _ (P : Plan) (S : Sound P) (cycle : ℕ) (s : State) (tab : List ℕ) (cl
         ⊎-elim
         (λ (e : ran ≡ suc i).
         ⊎-elim
-        (λ (one : report ≡ 1). omega (arith, here-after, log-done s tab clock report g A i li-state e one))
+        (λ (one : report ≡ 1). omega (arith, here-after, log-done s tab clock report g went i li-state e one))
         (λ (not-one : report ≡ 1 → ⊥).
-        let none : report ≡ 0 = omega (arith, A .report-to) in
-        omega (arith, here-after, log-over s tab clock report g A i li-state e none (eqb-true _ _ (sym (rw (ne-eqb report 1 not-one) at (ap (λ (j : Job). j .ended) (slice-here s ran report i e))) ∙ t))))
+        let none : report ≡ 0 = omega (arith, went .report-to) in
+        omega (arith, here-after, log-over s tab clock report g went i li-state e none (eqb-true _ _ (sym (rw (ne-eqb report 1 not-one) at (ap (λ (j : Job). j .ended) (slice-here s ran report i e))) ∙ t))))
         (eq-or-ne report 1))
         (λ (ne : ran ≡ suc i → ⊥).
         let was : jobOf s i .ended ≡ true = sym (ap (λ (j : Job). j .ended) (slice-elsewhere s ran report i ne)) ∙ t in
-        here .current-ended refl was (sym here-before ∙ sym (log-ended s tab clock report g A i li-state was) ∙ here-after ∙ z))
+        here .current-ended refl was (sym here-before ∙ sym (log-ended s tab clock report g went i li-state was) ∙ here-after ∙ z))
         (eq-or-ne ran (suc i))
 
     -- and 0 while it has not, until its deadline
     was-open : afterSlice s ran report i .ended ≡ false → jobOf s i .ended ≡ false
     was-open f =
         ⊎-elim
-        (λ (e : ran ≡ suc i). who-runs s tab (A .asked) i e .job-open)
+        (λ (e : ran ≡ suc i). who-runs s tab (went .asked) i e .job-open)
         (λ (ne : ran ≡ suc i → ⊥). sym (ap (λ (j : Job). j .ended) (slice-elsewhere s ran report i ne)) ∙ f)
         (eq-or-ne ran (suc i))
 
     open-unwritten : afterSlice s ran report i .ended ≡ false → deadlineNext s i ≡ false → byteOf after log i k ≡ 0
-    open-unwritten f l = sym here-after ∙ log-open s tab clock report g A i li-state f l ∙ here-before ∙ here .current-open refl (was-open f)
+    open-unwritten f l = sym here-after ∙ log-open s tab clock report g went i li-state f l ∙ here-before ∙ here .current-open refl (was-open f)
 
     -- at its deadline it is not 0 in any case
     late-written : deadlineNext s i ≡ true → byteOf after log i k ≡ 0 → ⊥
     late-written l z =
         ⊎-elim
         (λ (t : afterSlice s ran report i .ended ≡ true). ended-written t z)
-        (λ (f : afterSlice s ran report i .ended ≡ false). omega (arith, here-after, log-late s tab clock report g A i li-state f l))
+        (λ (f : afterSlice s ran report i .ended ≡ false). omega (arith, here-after, log-late s tab clock report g went i li-state f l))
         (bool-cases (afterSlice s ran report i .ended))
 
     -- what was written stays
     here-stays : (byteOf s g i k ≡ 0 → ⊥) → byteOf after log i k ≡ byteOf s g i k
     here-stays nz =
         ⊎-elim
-        (λ (t : jobOf s i .ended ≡ true). sym here-after ∙ log-ended s tab clock report g A i li-state t ∙ here-before)
+        (λ (t : jobOf s i .ended ≡ true). sym here-after ∙ log-ended s tab clock report g went i li-state t ∙ here-before)
         (λ (f : jobOf s i .ended ≡ false). absurd (nz (here .current-open refl f)))
         (bool-cases (jobOf s i .ended))
 
     -- ---- the slice that follows
     next-is : jobOf after i ≡ jobAfter s ran report i
-    next-is = job-then (H .carries) refl i li tab clock report g A
+    next-is = job-then (H .carries) refl i li tab clock report g went
 
     -- the job goes on
     module _ (on : suc (age P i (s .position)) < P .period i) where
@@ -170,7 +170,7 @@ module _ (P : Plan) (S : Sound P) (cycle : ℕ) (s : State) (tab : List ℕ) (cl
     -- no other job's byte is touched
     untouched : (m : ℕ) → m < cycle / P .period i → (m ≡ k → ⊥) → byteOf after log i m ≡ byteOf s g i m
     unfolding byteOf
-    untouched m lm ne = ap (λ (x : ℕ). getD log (x + m) 0) (kept .offset-kept i) ∙ other-stays (H .carries) refl i li tab clock report g A m lm ne
+    untouched m lm ne = ap (λ (x : ℕ). getD log (x + m) 0) (kept .offset-kept i) ∙ other-stays (H .carries) refl i li tab clock report g went m lm ne
 
     other-tells : (m : ℕ) → m < cycle / P .period i → (m ≡ k → ⊥) → Tells P after log i m
     unfolding deadline
@@ -199,7 +199,7 @@ module _ (P : Plan) (S : Sound P) (cycle : ℕ) (s : State) (tab : List ℕ) (cl
   pub honest-after : Honest P cycle after log
   honest-after = record {
     carries = carries-on (H .carries) kept;
-    is-sound = state-after-sound s tab clock report g A (H .carries .jobs-room);
+    is-sound = state-after-sound s tab clock report g went (H .carries .jobs-room);
     tells = λ i m li lm.
         ⊎-elim
         (λ (e : m ≡ job P i (s .position)). subst (Tells P after log i) (sym e) (current-tells i li))
@@ -234,7 +234,7 @@ module _ (P : Plan) (S : Sound P) (cycle : ℕ) (s : State) (tab : List ℕ) (cl
       ⊎-elim
       (λ (e : m ≡ job P i (s .position)).
       let old : getD g (place s i) 0 ≡ 0 = here-before i li ∙ ap (byteOf s g i) (sym e) ∙ z in
-      let new : byteAfter s ran report i (getD g (place s i) 0) ≡ 1 = sym (log-byte s tab clock report g A i (li-state i li)) ∙ here-after i li ∙ ap (byteOf after log i) (sym e) ∙ one in
+      let new : byteAfter s ran report i (getD g (place s i) 0) ≡ 1 = sym (log-byte s tab clock report g went i (li-state i li)) ∙ here-after i li ∙ ap (byteOf after log i) (sym e) ∙ one in
       let both = both-true (eqb ran (suc i)) (eqb report 1) .0 (pass-test i (getD g (place s i) 0) old new) in
       (eqb-true ran (suc i) (both .0), current-is (H .carries) refl i li ∙ sym e, eqb-true report 1 (both .1)))
       (λ (ne : m ≡ job P i (s .position) → ⊥). absurd (omega (arith, untouched i li m lm ne)))

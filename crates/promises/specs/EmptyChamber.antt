@@ -8,12 +8,12 @@ use Rattle.tasks.specs.declared.TaskList.{TaskList}
 use Rattle.tasks.specs.List.{planOf}
 use Rattle.start.specs.declared.Asked.{Asked}
 use Rattle.start.specs.declared.Started.{Started}
-use Rattle.start.specs.Start.{Begins, begunNumbers}
+use Rattle.start.specs.Start.{Begins, begunAnswer}
 use Rattle.run.specs.declared.State.{State}
 use Rattle.run.specs.declared.Next.{Next}
 use Rattle.run.specs.State.{currentOf}
 use Rattle.run.specs.Who.{running}
-use Rattle.run.specs.Step.{Stepped, closedNumber}
+use Rattle.run.specs.Step.{Stepped, closedAnswer}
 use Rattle.promises.specs.Demand3.{jobsIn, placeOf}
 
 -- Any calls of step after an accepted start, with any reports, clock readings and tables and with refused calls in between, each
@@ -32,7 +32,7 @@ pub record Calls (l : TaskList) : Type 0 where
   pub reports : ℕ → ℕ
   pub answers : ℕ → Next
   pub begins : Begins l supply asked clock log (logs 0) begun
-  pub accepted : begunNumbers (begun .answer) .number ≡ 0
+  pub accepted : begunAnswer (begun .answer) .number ≡ 0
   pub from-start : states 0 ≡ begun .state
   pub stepped : (n : ℕ) → Stepped (states n) (tables n) (clocks n) (reports n) (logs n) (logs (suc n)) (answers n)
   pub handed : (n : ℕ) → states (suc n) ≡ answers n .state
@@ -41,7 +41,7 @@ pub record Calls (l : TaskList) : Type 0 where
 pub record Earned (l : TaskList) (C : Calls l) (n i k : ℕ) : Type 0 where
   pub call : ℕ
   pub before : call < n
-  pub went : closedNumber (C .answers call .answer) ≡ 0
+  pub went : closedAnswer (C .answers call .answer) .number ≡ 0
   pub ran-here : running (C .states call) (C .tables call) ≡ suc i
   pub that-job : currentOf (C .states call) i ≡ k
   pub finished : C .reports call ≡ 1

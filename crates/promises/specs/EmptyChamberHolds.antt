@@ -1,11 +1,12 @@
 -- A pass is earned: log and jobs agree from an accepted start on, whatever is called, so no byte tells what was not.
-use mathlib.Core.Path.{_≡_, refl, sym, ap, _∙_}
+use mathlib.Core.Path.{_≡_, sym, ap, _∙_}
 use mathlib.Core.List.{List}
 use mathlib.Core.Logic.{⊎-elim}
 use Prim.Native.Nat.{ℕ, zero, suc, _+_, _≤_, _<_}
 use native.Mathlib.Omega.{arith}
 use lib.ListN.{getD}
 use Rattle.basis.specs.Choose.{eq-or-ne}
+use Rattle.basis.specs.Answer.{refusal, none}
 use Rattle.plan.specs.Plan.{Sound, deadline}
 use Rattle.tasks.specs.declared.TaskList.{TaskList}
 use Rattle.tasks.specs.List.{planOf}
@@ -13,11 +14,12 @@ use Rattle.tasks.specs.Bounds.{cycleOf}
 use Rattle.tasks.specs.Kept.{plan-sound}
 use Rattle.start.specs.Start.{modeOf}
 use Rattle.run.specs.declared.State.{State}
+use Rattle.run.specs.declared.Closed.{Closed}
 use Rattle.run.specs.declared.Closed.the-variants.{Accepted}
 use Rattle.run.specs.Who.{running}
-use Rattle.run.specs.Step.{stepRefusal, stateAfter, logAfter, closedNumber}
+use Rattle.run.specs.Step.{stateAfter, logAfter, closedAnswer}
 use Rattle.run.specs.Accepted.{StepAccepted, step-accepted, step-answers}
-use Rattle.promises.specs.Demand1.{step-refused}
+use Rattle.promises.specs.Demand1Holds.{step-said, step-refused}
 use Rattle.promises.specs.Demand3.{jobsIn, placeOf}
 use Rattle.promises.specs.EmptyChamber.{Calls, Earned, byteIn, EmptyChamber}
 use Rattle.promises.specs.Earned.{byteOf, Honest, honest-after, written-stays, pass-brought}
@@ -40,17 +42,20 @@ module _ (l : TaskList) (C : Calls l) where
     moved : StepAccepted (s n) (C .tables n) (C .clocks n) (C .reports n) (g n) → C .answers n .answer ≡ Accepted
         → s (suc n) ≡ stateAfter (s n) (ran n) (C .clocks n) (C .reports n) → g (suc n) ≡ logAfter (s n) (ran n) (C .reports n) (g n) → Made n
 
+  abbrev said : ℕ → ℕ
+  said n = closedAnswer (C .answers n .answer) .number
+
   made : (n : ℕ) → Made n
-  made n = go (stepRefusal (s n) (C .tables n) (C .clocks n) (C .reports n) (g n)) refl
-    where
-      go : (x : ℕ) → stepRefusal (s n) (C .tables n) (C .clocks n) (C .reports n) (g n) ≡ x → Made n
-      go zero e =
-          let A = step-accepted (s n) (C .tables n) (C .clocks n) (C .reports n) (g n) .0 e in
-          let a = step-answers (s n) (C .tables n) (C .clocks n) (C .reports n) (g n) (g (suc n)) (C .answers n) A (C .stepped n) in
-          moved A (a .0) (C .handed n ∙ a .1) (a .2)
-      go (suc x) e =
-          let a = step-refused (s n) (C .tables n) (C .clocks n) (C .reports n) (g n) (g (suc n)) (C .answers n) x e (C .stepped n) in
-          same (C .handed n ∙ a .state-kept) (a .log-kept)
+  made n =
+      ⊎-elim
+      (λ (z : said n ≡ 0).
+      let A = step-accepted (s n) (C .tables n) (C .clocks n) (C .reports n) (g n) .0 (sym (step-said (s n) (C .tables n) (C .clocks n) (C .reports n) (g n) (g (suc n)) (C .answers n) (C .stepped n)) ∙ z) in
+      let a = step-answers (s n) (C .tables n) (C .clocks n) (C .reports n) (g n) (g (suc n)) (C .answers n) A (C .stepped n) in
+      moved A (a .0) (C .handed n ∙ a .1) (a .2))
+      (λ (nz : said n ≡ 0 → ⊥).
+      let a = step-refused (s n) (C .tables n) (C .clocks n) (C .reports n) (g n) (g (suc n)) (C .answers n) (C .stepped n) nz in
+      same (C .handed n ∙ a .0) (a .1))
+      (eq-or-ne (said n) 0)
 
   -- ---- log and jobs agree
   begun-as : begun.Accepted l (C .supply) (C .asked) (C .clock) (C .log) (g 0) (C .begun)
@@ -94,13 +99,13 @@ module _ (l : TaskList) (C : Calls l) where
     earlier-too n E = record { call = E .call; before = omega (arith, E .before); went = E .went; ran-here = E .ran-here; that-job = E .that-job; finished = E .finished }
 
     earned-by : (n : ℕ) → (byte n ≡ 1 → Earned l C n i k) → byte (suc n) ≡ 1 → Made n → Earned l C (suc n) i k
-    unfolding closedNumber planOf
+    unfolding closedAnswer none refusal planOf
     earned-by n so-far one (same es eg) = earlier-too n (so-far (sym (rw (es, eg)) ∙ one))
     earned-by n so-far one (moved A a es eg) =
         ⊎-elim
         (λ (z : byte n ≡ 0).
         let b = pass-brought (planOf l) S (cycleOf l) (s n) (C .tables n) (C .clocks n) (C .reports n) (g n) A (honest n) i k li lk z (sym (rw (es, eg)) ∙ one) in
-        record { call = n; before = omega arith; went = ap closedNumber a; ran-here = b .0; that-job = b .1; finished = b .2 })
+        record { call = n; before = omega arith; went = ap (λ (x : Closed). closedAnswer x .number) a; ran-here = b .0; that-job = b .1; finished = b .2 })
         (λ (nz : byte n ≡ 0 → ⊥). earlier-too n (so-far (sym (stays-by n nz (made n)) ∙ one)))
         (eq-or-ne (byte n) 0)
 

@@ -7,13 +7,14 @@ use native.Mathlib.Omega.{arith}
 use lib.ListN.{length}
 use borrow.Author.Tests.{le-ltb}
 use Rattle.basis.specs.Choose.{choose-no}
+use Rattle.verdict.specs.Answers.{accepted-as}
 use Rattle.plan.specs.Plan.{Demand}
 use Rattle.tasks.specs.declared.TaskList.{TaskList}
 use Rattle.tasks.specs.List.{planOf}
 use Rattle.tasks.specs.Bounds.{cycleOf, jobsOf}
 use Rattle.verdict.specs.declared.Verdict.{Verdict}
 use Rattle.verdict.specs.declared.Verdict.the-variants.{Accepted, Refused}
-use Rattle.verdict.specs.Verdict.{verdictOf, numbers}
+use Rattle.verdict.specs.Verdict.{verdictOf, verdictAnswer}
 use Rattle.verdict.specs.Table.{fitted, Built}
 use Rattle.start.specs.declared.Asked.{Asked}
 use Rattle.start.specs.declared.Started.{Started}
@@ -23,19 +24,19 @@ use Rattle.run.specs.declared.Next.{Next}
 use Rattle.run.specs.Step.{nextClock, answerOf, Stepped}
 use Rattle.bench.specs.Course.{Course, reportIn, refusalIn, stateIn, logIn, closed, courseAt}
 use Rattle.bench.specs.Drive.{begun as firstOf}
-use Rattle.promises.specs.Demand2.{accepted-as, list-accepted, table-is}
+use Rattle.promises.specs.Demand2Holds.{list-accepted, table-is}
 use Rattle.promises.specs.Demand3.{jobsIn, Own, FullRun}
 use Rattle.promises.specs.Begun.{accepted-starts}
 
 -- ---- tables
 -- A table that reaches the cycle's end is not refused by 8.
-pub fitted-whole : (v : Verdict) (room : ℕ) → numbers v .cycle ≤ room → fitted v room ≡ v
-unfolding fitted numbers
+pub fitted-whole : (v : Verdict) (room : ℕ) → verdictAnswer v .cycle ≤ room → fitted v room ≡ v
+unfolding fitted verdictAnswer
 fitted-whole (Accepted cycle jobs task margin) room le = choose-no _ _ _ (le-ltb room cycle le)
 fitted-whole (Refused number task margin) room le = refl
 
 -- What an accepted build leaves in the lent bytes is the list's own table.
-pub own-table : (l : TaskList) (supply : ℕ) (old new : List ℕ) (v : Verdict) → Built l supply old new v → numbers v .number ≡ 0 → Own (planOf l) (cycleOf l) new
+pub own-table : (l : TaskList) (supply : ℕ) (old new : List ℕ) (v : Verdict) → Built l supply old new v → verdictAnswer v .number ≡ 0 → Own (planOf l) (cycleOf l) new
 own-table l supply old new v B z =
     let T = table-is l supply (accepted-as l supply (list-accepted l supply old new v B z) .keeps) old new v B z in
     record { reaches = T .reaches; entries = T .entries }
@@ -53,7 +54,7 @@ module _ (l : TaskList) (supply : ℕ) (asked : Asked) (clock : ℕ) (log : List
     abbrev course : ℕ → Course
     course = courseAt tab need (firstOf l supply asked clock log ends)
 
-    unfoldable pub course-run : numbers (verdictOf l supply) .number ≡ 0 → jobsOf l ≤ length log → ((i k : ℕ) → i < l .count → k < jobsIn l i → 1 ≤ need i k) → Own (planOf l) (cycleOf l) tab → FullRun l
+    unfoldable pub course-run : verdictAnswer (verdictOf l supply) .number ≡ 0 → jobsOf l ≤ length log → ((i k : ℕ) → i < l .count → k < jobsIn l i → 1 ≤ need i k) → Own (planOf l) (cycleOf l) tab → FullRun l
     unfolding courseAt closed stateIn logIn refusalIn firstOf
     course-run ok room needs own = record {
       supply = supply;

@@ -1,13 +1,19 @@
 -- The demands, stated of the definitions that the public contracts cite.
-pub mod Demand1
 pub mod Carries
 pub mod Reached
 pub mod Driven
 pub mod Earned
+pub mod Demand2
+pub mod Demand2Holds
+pub mod Refusals
+pub mod RefusalsHold
+pub mod Program
+pub mod ProgramHolds
+pub mod Begun
+pub mod Demand1
+pub mod Demand1Holds
 pub mod EmptyChamber
 pub mod EmptyChamberHolds
-pub mod Demand2
-pub mod Begun
 pub mod Demand3
 pub mod Demand3Holds
 pub mod Exists

@@ -9,6 +9,7 @@ use lib.Dec.{eqb, leb}
 use borrow.Author.Tests.{eq-eqb, ne-eqb, le-leb, lt-leb}
 use lib.ListN.{length, getD}
 use Rattle.basis.specs.Choose.{choose, choose-yes, choose-no, choose-either, bool-cases, le-or-lt, eq-or-ne}
+use Rattle.basis.specs.Answer.{refusal, none}
 use Rattle.plan.specs.Plan.{Plan, Sound, Demand, job, age, gets, had, entry, takes, OnTimeUpTo}
 use Rattle.plan.specs.Work.{gets-one, gets-none, gets-cases}
 use Rattle.plan.specs.Progress.{hadUpTo, on-time-had, on-time-grows, others-stay}
@@ -17,7 +18,7 @@ use Rattle.plan.specs.Run.{goes-on-or-ends, job-goes-on as job-stays, had-goes-
 use Rattle.run.specs.declared.Mode.{Mode}
 use Rattle.run.specs.declared.State.{State}
 use Rattle.run.specs.State.{Job, fresh, runtimeOf, currentOf, jobOf, deadlineNext, offset, jobCount, place}
-use Rattle.run.specs.Who.{unlessEnded, running, whoRefusal, ofEntry, answered, whoOf, whoNumbers}
+use Rattle.run.specs.Who.{unlessEnded, running, whoRefusal, ofEntry, answered, whoOf, runnerAnswer}
 use Rattle.run.specs.Step.{nextClock, afterSlice, jobAfter, stateAfter, logAfter}
 use Rattle.run.specs.Sound.{SoundState}
 use Rattle.run.specs.Accepted.{WhoAccepted, StepAccepted, who-accepted}
@@ -46,10 +47,10 @@ unless-open s e i q f = ap (unlessEnded s) q ∙ choose-no (jobOf s i .ended) 0 
 
 -- Where asking is accepted, the one who is told is the one who runs; so the report is that one's.
 pub reported : (s : State) (tab : List ℕ) → WhoAccepted s tab → (need : Demand) → reportIn tab need s ≡ reportOf need s (running s tab)
-unfolding reportIn whoOf answered ofEntry whoNumbers
-reported s tab A need = ap (reportOf need s) (told (whoRefusal s tab) (running s tab) (who-accepted s tab .1 A))
+unfolding reportIn whoOf answered ofEntry runnerAnswer none refusal
+reported s tab went need = ap (reportOf need s) (told (whoRefusal s tab) (running s tab) (who-accepted s tab .1 went))
   where
-    told : (n e : ℕ) → n ≡ 0 → whoNumbers (answered n e) .task ≡ e
+    told : (n e : ℕ) → n ≡ 0 → runnerAnswer (answered n e) .task ≡ e
     told zero zero z = refl
     told zero (suc i) z = refl
     told (suc n) e z = absurd (omega arith)
@@ -143,7 +144,7 @@ module _ (P : Plan) (S : Sound P) (cycle : ℕ)
     (need d : Demand) (some : (i k : ℕ) → i < P .count → k < cycle / P .period i → 1 ≤ takes P need i k) (enough : (i k : ℕ) → i < P .count → takes P need i k ≤ d i k) (on : OnTimeUpTo P d cycle)
     (m : Mode) (first : List ℕ) (p : ℕ) (lp : p < cycle) (s : State) (g : List ℕ) (R : Reached P cycle need d m first p s g)
     (tab : List ℕ) (ran-is : running s tab ≡ unlessEnded s (entry P d p))
-    (A : StepAccepted s tab (nextClock (s .clock)) (reportIn tab need s) g) where
+    (went : StepAccepted s tab (nextClock (s .clock)) (reportIn tab need s) g) where
   abbrev ran : ℕ
   ran = running s tab
 
@@ -155,7 +156,7 @@ module _ (P : Plan) (S : Sound P) (cycle : ℕ)
 
   reports : (i : ℕ) → i < P .count → unlessEnded s (entry P d p) ≡ suc i → report ≡ choose (eqb (jobOf s i .used + 1) (need i (job P i p))) 1 0
   unfolding reportOf
-  reports i li q = reported s tab (A .asked) need ∙ ap (reportOf need s) (ran-is ∙ q) ∙ ap (λ (k : ℕ). choose (eqb (jobOf s i .used + 1) (need i k)) 1 0) (current-is (R .carries) (R .position-is) i li)
+  reports i li q = reported s tab (went .asked) need ∙ ap (reportOf need s) (ran-is ∙ q) ∙ ap (λ (k : ℕ). choose (eqb (jobOf s i .used + 1) (need i k)) 1 0) (current-is (R .carries) (R .position-is) i li)
 
   module _ (i : ℕ) (li : i < P .count) where
     -- the current job, what it needs and what it may have, and what it has had with this slice
@@ -225,11 +226,11 @@ module _ (P : Plan) (S : Sound P) (cycle : ℕ)
           ⊎-elim
           (λ (l : need i k ≤ P .runtime i k).
           let reached : jobOf s i .used + 1 ≡ need i k = omega (arith, count-is-takes) in
-          log-done s tab (nextClock (s .clock)) report g A i li-state (ran-is ∙ runs) (reports i li runs ∙ choose-yes (eqb (jobOf s i .used + 1) (need i k)) 1 0 (eq-eqb _ _ reached))
+          log-done s tab (nextClock (s .clock)) report g went i li-state (ran-is ∙ runs) (reports i li runs ∙ choose-yes (eqb (jobOf s i .used + 1) (need i k)) 1 0 (eq-eqb _ _ reached))
           ∙ sym (choose-yes (leb (need i k) (P .runtime i k)) 1 2 (le-leb (need i k) (P .runtime i k) l)))
           (λ (l : P .runtime i k < need i k).
           let not-reached : jobOf s i .used + 1 ≡ need i k → ⊥ = λ e. omega (arith, count-is-takes) in
-          log-over s tab (nextClock (s .clock)) report g A i li-state (ran-is ∙ runs) (reports i li runs ∙ choose-no (eqb (jobOf s i .used + 1) (need i k)) 1 0 (ne-eqb _ _ not-reached)) (omega (arith, count-is-takes, runtime-now (R .carries) (R .position-is) i li))
+          log-over s tab (nextClock (s .clock)) report g went i li-state (ran-is ∙ runs) (reports i li runs ∙ choose-no (eqb (jobOf s i .used + 1) (need i k)) 1 0 (ne-eqb _ _ not-reached)) (omega (arith, count-is-takes, runtime-now (R .carries) (R .position-is) i li))
           ∙ sym (choose-no (leb (need i k) (P .runtime i k)) 1 2 (lt-leb (need i k) (P .runtime i k) l)))
           (le-or-lt (need i k) (P .runtime i k))
 
@@ -238,13 +239,13 @@ module _ (P : Plan) (S : Sound P) (cycle : ℕ)
     byte-then =
         ⊎-elim
         (λ (ended : b ≤ had P d p i).
-        log-ended s tab (nextClock (s .clock)) report g A i li-state (R .jobs-are lp i li .ended-is ∙ le-leb b (had P d p i) ended)
+        log-ended s tab (nextClock (s .clock)) report g went i li-state (R .jobs-are lp i li .ended-is ∙ le-leb b (had P d p i) ended)
         ∙ byte-before ∙ byte-result P need d i k p (omega (arith, had-before)) ∙ sym (byte-result P need d i k (suc p) (omega (arith, had-then))))
         (λ (short : had P d p i < b).
         ⊎-elim
         (λ (full : b ≤ now-had). ending-byte short full ∙ sym (byte-result P need d i k (suc p) (omega (arith, had-then))))
         (λ (still : now-had < b).
-        log-open s tab (nextClock (s .clock)) report g A i li-state (after-slice .ended-is ∙ lt-leb b now-had still) (not-late still)
+        log-open s tab (nextClock (s .clock)) report g went i li-state (after-slice .ended-is ∙ lt-leb b now-had still) (not-late still)
         ∙ byte-before ∙ byte-none P need d i k p (omega (arith, had-before)) ∙ sym (byte-none P need d i k (suc p) (omega (arith, had-then))))
         (le-or-lt b now-had))
         (le-or-lt b (had P d p i))
@@ -256,7 +257,7 @@ module _ (P : Plan) (S : Sound P) (cycle : ℕ)
       ⊎-elim
       (λ (e : k ≡ job P i p). subst (λ (x : ℕ). getD (logAfter s ran report g) (offset s i + x) 0 ≡ byteUpTo P need d i x (suc p)) (sym e) (sym (ap (λ (x : ℕ). getD (logAfter s ran report g) x 0) (place-is (R .carries) (R .position-is) i li)) ∙ byte-then i li))
       (λ (ne : k ≡ job P i p → ⊥).
-      other-stays (R .carries) (R .position-is) i li tab (nextClock (s .clock)) report g A k lk ne
+      other-stays (R .carries) (R .position-is) i li tab (nextClock (s .clock)) report g went k lk ne
       ∙ R .bytes-are i k li lk ∙ ap (λ (x : ℕ). choose (leb (takes P need i k) x) (resultByte P need i k) 0) (sym (others-stay P S d i li k p ne)))
       (eq-or-ne k (job P i p))
 
@@ -267,14 +268,14 @@ module _ (P : Plan) (S : Sound P) (cycle : ℕ)
         carries = carries-on (R .carries) kept;
         mode-is = kept .mode-kept ∙ R .mode-is;
         room = omega (arith, kept .job-count-kept, R .room);
-        is-sound = state-after-sound s tab (nextClock (s .clock)) report g A (R .carries .jobs-room);
+        is-sound = state-after-sound s tab (nextClock (s .clock)) report g went (R .carries .jobs-room);
         position-is = omega (arith, kept .position-next, R .position-is);
         jobs-are = λ follows i li.
             subst (λ (j : Job). HasHad j (had P d (suc p) i) (need i (job P i (suc p))) (P .runtime i (job P i (suc p))))
-            (sym (job-then (R .carries) (R .position-is) i li tab (nextClock (s .clock)) report g A)) (job-next-is i li follows);
+            (sym (job-then (R .carries) (R .position-is) i li tab (nextClock (s .clock)) report g went)) (job-next-is i li follows);
         bytes-are = λ i k li lk. ap (λ (x : ℕ). getD (logAfter s ran report g) (x + k) 0) (kept .offset-kept i) ∙ bytes-then i k li lk;
-        beyond = λ x l. log-beyond s tab (nextClock (s .clock)) report g A x (omega (arith, kept .job-count-kept)) ∙ R .beyond x (omega (arith, kept .job-count-kept));
-        long = log-length s tab (nextClock (s .clock)) report g A ∙ R .long;
+        beyond = λ x l. log-beyond s tab (nextClock (s .clock)) report g went x (omega (arith, kept .job-count-kept)) ∙ R .beyond x (omega (arith, kept .job-count-kept));
+        long = log-length s tab (nextClock (s .clock)) report g went ∙ R .long;
       }
     where
       kept : HandedOn s (stateAfter s ran (nextClock (s .clock)) report) (nextClock (s .clock))

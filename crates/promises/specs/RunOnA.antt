@@ -5,31 +5,34 @@ use mathlib.Core.List.{List, [], _∷_}
 use Prim.Native.Nat.{ℕ, zero, suc, _≤_, _<_}
 use native.Mathlib.Omega.{arith}
 use lib.ListN.{length, getD, replicate, length-replicate}
-use Rattle.basis.specs.Choose.{choose}
+use Rattle.basis.specs.Choose.{choose, within}
 use Rattle.basis.specs.Least.{least}
 use Rattle.basis.specs.Sum.{sum}
 use Rattle.basis.specs.Bytes.{overwrite}
+use Rattle.basis.specs.Answer.{Answer, refusal, none, _orElse_, firstFound}
+use Rattle.verdict.specs.Answers.{accepted-as}
 use Rattle.plan.specs.Plan.{firstOf, first, job, age, keyIn, wants, pick, gets, hadAfter, hadAll, had, entry, given, table}
 use Rattle.tasks.specs.List.{noTask, taskAt, planOf, listOf}
 use Rattle.tasks.specs.Euclid.{euclid, gcdOf, lcmOf}
-use Rattle.tasks.specs.Bounds.{multiple, memorySum, jobSum, cycleOf, jobsOf, refusal, none, _orElse_, firstFound, outside, ofCount, ofNumbers, ofTask, ofMemory, ofCycle, found, answer, boundsOf}
+use Rattle.tasks.specs.Bounds.{multiple, memorySum, jobSum, cycleOf, jobsOf, ofCount, ofNumbers, ofTask, ofMemory, ofCycle, found, answer, boundsOf}
 use Rattle.verdict.specs.declared.Verdict.{Verdict}
 use Rattle.verdict.specs.Lateness.{received, missing, missedAt, lateBy, earlier, lateness}
-use Rattle.verdict.specs.Verdict.{judged, verdictFrom, verdictOf, Numbers, numbers}
+use Rattle.verdict.specs.Verdict.{judged, verdictFrom, verdictOf, verdictAnswer}
 use Rattle.verdict.specs.Table.{fitted, tabled}
 use Rattle.start.specs.declared.Asked.{Asked}
 use Rattle.start.specs.declared.Asked.the-variants.{Table, Filling}
 use Rattle.start.specs.Start.{modeOf, startState, begunOf, begunState, begunLog}
-use Rattle.run.specs.State.{periodOf, currentOf, ageOf, fresh, jobOf, within, every, soundTask, sound, offset, jobCount, place, deadlineNext, releaseNext}
+use Rattle.run.specs.State.{periodOf, currentOf, ageOf, fresh, jobOf, every, soundTask, sound, offset, jobCount, place, deadlineNext, releaseNext}
 use Rattle.run.specs.State.{runtimeOf as runtimeIn}
-use Rattle.run.specs.Who.{unlessEnded, firstOpen, runningBy, running, orNext, of9, of10, of11By, of11, whoRefusal, ofEntry, answered, whoOf, whoNumbers}
-use Rattle.run.specs.Step.{of12, nextClock, of13, of14, stepRefusal, afterSlice, resultOf, withResult, withLate, logAfter, jobAfter, stateAfter, nextState, nextLog}
+use Rattle.run.specs.Who.{unlessEnded, firstOpen, runningBy, running, of9, of10, of11By, of11, whoFound, ofEntry, answered, whoOf, runnerAnswer}
+use Rattle.run.specs.Step.{of12, nextClock, of13, of14, stepFound, afterSlice, resultOf, withResult, withLate, logAfter, jobAfter, stateAfter, nextState, nextLog}
 use Rattle.bench.specs.Course.{Course, reportOf, reportIn, needIn, refusalIn, stateIn, logIn, closed, courseAt}
 use Rattle.bench.specs.declared.Driven.{Driven}
 use Rattle.bench.specs.Drive.{begun, Drives}
 use Rattle.starred.specs.Lists.{task, verdict, accepted, A}
 use Rattle.starred.specs.Starred.{starred}
-use Rattle.promises.specs.Demand2.{accepted-as, AcceptedAs, accepted-values}
+use Rattle.promises.specs.Demand2.{AcceptedAs}
+use Rattle.promises.specs.Demand2Holds.{accepted-values}
 use Rattle.promises.specs.Demand3.{FullRun, placeOf, isLogged, endIn}
 use Rattle.promises.specs.Exists.{course-run}
 use Rattle.promises.specs.Sheet.{drive-run, Shows, drive-shows}
@@ -58,20 +61,20 @@ unfolding builtOnA tableOnA firstOnA lastOnA drivenOnA
 drives-on-A asked = record { built = record { answer = refl; bytes = refl }; started = refl; whole = refl }
 
 -- ---- it is a full run, and what is left shows it
-pub A-accepted : numbers (verdictOf (listOf A) 0) .number ≡ 0
+pub A-accepted : verdictAnswer (verdictOf (listOf A) 0) .number ≡ 0
 unfolding verdict accepted
-A-accepted = ap (λ (n : Numbers). n .number) (starred .verdict-A)
+A-accepted = ap (λ (n : Answer). n .number) (starred .verdict-A)
 
-values : AcceptedAs (listOf A) (numbers (verdictOf (listOf A) 0))
+values : AcceptedAs (listOf A) (verdictAnswer (verdictOf (listOf A) 0))
 values = accepted-values (listOf A) 0 (accepted-as (listOf A) 0 A-accepted .keeps) A-accepted
 
 pub A-reaches : cycleOf (listOf A) ≤ length (replicate {A = ℕ} 4096 0)
 unfolding verdict accepted
-A-reaches = omega (arith, values .cycle-is, ap (λ (n : Numbers). n .cycle) (starred .verdict-A), length-replicate {A = ℕ} 4096 0)
+A-reaches = omega (arith, values .cycle-is, ap (λ (n : Answer). n .cycle) (starred .verdict-A), length-replicate {A = ℕ} 4096 0)
 
 A-jobs : jobsOf (listOf A) ≡ 6
 unfolding verdict accepted
-A-jobs = sym (values .jobs-is) ∙ ap (λ (n : Numbers). n .jobs) (starred .verdict-A)
+A-jobs = sym (values .jobs-is) ∙ ap (λ (n : Answer). n .jobs) (starred .verdict-A)
 
 pub A-room : jobsOf (listOf A) ≤ length (replicate {A = ℕ} 6 0)
 A-room = omega (arith, A-jobs, length-replicate {A = ℕ} 6 0)
@@ -109,5 +112,5 @@ pub record OnA : Type 0 where
   pub second-filling : endOnA Filling 1 1 ≡ 8
 
 pub on-A : OnA
-unfolding A task needsOnA builtOnA tableOnA firstOnA runOnA endOnA drive-run course-run placeOf isLogged endIn listOf planOf fitted tabled choose sum least overwrite firstOf first job age keyIn wants pick gets hadAfter hadAll had entry given table noTask taskAt euclid gcdOf lcmOf multiple memorySum jobSum cycleOf jobsOf refusal none _orElse_ firstFound outside ofCount ofNumbers ofTask ofMemory ofCycle found answer boundsOf received missing missedAt lateBy earlier lateness judged verdictFrom verdictOf modeOf startState begunState begunLog periodOf currentOf ageOf fresh jobOf within every soundTask sound offset jobCount place deadlineNext releaseNext runtimeIn unlessEnded firstOpen runningBy running orNext of9 of10 of11By of11 whoRefusal ofEntry answered whoOf whoNumbers of12 nextClock of13 of14 stepRefusal afterSlice resultOf withResult withLate logAfter jobAfter stateAfter nextState nextLog reportOf reportIn needIn refusalIn stateIn logIn closed courseAt begun
+unfolding A task needsOnA builtOnA tableOnA firstOnA runOnA endOnA drive-run course-run placeOf isLogged endIn listOf planOf fitted tabled choose sum least overwrite firstOf first job age keyIn wants pick gets hadAfter hadAll had entry given table noTask taskAt euclid gcdOf lcmOf multiple memorySum jobSum cycleOf jobsOf refusal none _orElse_ firstFound ofCount ofNumbers ofTask ofMemory ofCycle found answer boundsOf received missing missedAt lateBy earlier lateness judged verdictFrom verdictOf modeOf startState begunState begunLog periodOf currentOf ageOf fresh jobOf within every soundTask sound offset jobCount place deadlineNext releaseNext runtimeIn unlessEnded firstOpen runningBy running of9 of10 of11By of11 whoFound ofEntry answered whoOf runnerAnswer of12 nextClock of13 of14 stepFound afterSlice resultOf withResult withLate logAfter jobAfter stateAfter nextState nextLog reportOf reportIn needIn refusalIn stateIn logIn closed courseAt begun
 on-A = record { log-by-table = refl; log-filling = refl; third-by-table = refl; third-filling = refl; second-by-table = refl; second-filling = refl }

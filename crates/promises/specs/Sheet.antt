@@ -11,13 +11,15 @@ use lib.ListN.{length, getD}
 use borrow.Author.Tests.{eq-eqb, ne-eqb, le-leb, lt-leb}
 use Rattle.basis.specs.Choose.{choose, choose-yes, choose-no, le-or-lt, eq-or-ne}
 use Rattle.basis.specs.Bytes.{overwrite-length, overwrite-at}
+use Rattle.basis.specs.Answer.{Answer, refusal}
+use Rattle.verdict.specs.Answers.{accepted-as}
 use Rattle.plan.specs.Plan.{Demand}
 use Rattle.tasks.specs.declared.TaskList.{TaskList}
 use Rattle.tasks.specs.List.{planOf}
 use Rattle.tasks.specs.Bounds.{cycleOf, jobsOf}
 use Rattle.tasks.specs.Kept.{KeepsBounds}
 use Rattle.verdict.specs.declared.Verdict.{Verdict}
-use Rattle.verdict.specs.Verdict.{verdictOf, numbers}
+use Rattle.verdict.specs.Verdict.{verdictOf, verdictAnswer}
 use Rattle.start.specs.declared.Asked.{Asked}
 use Rattle.start.specs.Start.{modeOf, startState}
 use Rattle.run.specs.declared.State.{State}
@@ -26,7 +28,7 @@ use Rattle.run.specs.Step.{answerOf, closed-number}
 use Rattle.bench.specs.declared.Driven.{Driven}
 use Rattle.bench.specs.Course.{Course, needIn, endOf, noted, refusalIn, endsBy, closed, courseAt}
 use Rattle.bench.specs.Drive.{Drives, begun as firstOf}
-use Rattle.promises.specs.Demand2.{accepted-as, accepted-values}
+use Rattle.promises.specs.Demand2Holds.{accepted-values}
 use Rattle.promises.specs.Demand3.{jobsIn, Own, FullRun, placeOf, endIn}
 use Rattle.promises.specs.Demand3Holds.{reached, no-step-refused, logged, end-within, some-at-end, none-before-end, ends-in-own-slice}
 use Rattle.promises.specs.Begun.{start-accepted, accepted-starts, offset-listed, start-carries, place-within}
@@ -48,7 +50,7 @@ note-next p byte end e pos so-far none some =
 
 -- ---- the ends of a course
 module _ (l : TaskList) (supply : ℕ) (asked : Asked) (clock : ℕ) (log : List ℕ) (need : Demand) (tab ends : List ℕ)
-    (ok : numbers (verdictOf l supply) .number ≡ 0) (room : jobsOf l ≤ length log) (needs : (i k : ℕ) → i < l .count → k < jobsIn l i → 1 ≤ need i k) (own : Own (planOf l) (cycleOf l) tab) where
+    (ok : verdictAnswer (verdictOf l supply) .number ≡ 0) (room : jobsOf l ≤ length log) (needs : (i k : ℕ) → i < l .count → k < jobsIn l i → 1 ≤ need i k) (own : Own (planOf l) (cycleOf l) tab) where
   abbrev F : FullRun l
   F = course-run l supply asked clock log need tab ends ok room needs own
 
@@ -56,8 +58,8 @@ module _ (l : TaskList) (supply : ℕ) (asked : Asked) (clock : ℕ) (log : List
   c = courseAt tab need (firstOf l supply asked clock log ends)
 
   no-refusal : (p : ℕ) → p < cycleOf l → refusalIn tab need (c p) ≡ 0
-  unfolding course-run
-  no-refusal p lp = sym (closed-number (refusalIn tab need (c p))) ∙ no-step-refused l F p lp
+  unfolding course-run refusal
+  no-refusal p lp = sym (ap (λ (a : Answer). a .number) (closed-number (refusalIn tab need (c p)))) ∙ no-step-refused l F p lp
 
   all-noted : (p : ℕ) → p < cycleOf l → c (suc p) .ends ≡ noted (c (suc p) .log) (c (suc p) .state .position) (c p .ends)
   unfolding courseAt closed endsBy answerOf
@@ -106,7 +108,7 @@ pub record Shows (l : TaskList) (F : FullRun l) (needs log ends : List ℕ) (las
   pub end-is : (i k : ℕ) → i < l .count → k < jobsIn l i → getD ends (placeOf l i k) 0 ≡ endIn l (F .logs) i k
 
 module _ (l : TaskList) (supply : ℕ) (asked : Asked) (clock : ℕ) (needs table table′ log log′ ends ends′ : List ℕ) (r : Driven) (D : Drives l supply asked clock needs table table′ log log′ ends ends′ r)
-    (ok : numbers (verdictOf l supply) .number ≡ 0) (reaches : cycleOf l ≤ length table) (room : jobsOf l ≤ length log) (from-one : (x : ℕ) → x < jobsOf l → 1 ≤ getD needs x 0) where
+    (ok : verdictAnswer (verdictOf l supply) .number ≡ 0) (reaches : cycleOf l ≤ length table) (room : jobsOf l ≤ length log) (from-one : (x : ℕ) → x < jobsOf l → 1 ≤ getD needs x 0) where
   abbrev first : Course
   first = firstOf l supply asked clock log ends
 
@@ -131,7 +133,7 @@ module _ (l : TaskList) (supply : ℕ) (asked : Asked) (clock : ℕ) (needs tabl
   pub own : Own (planOf l) (cycleOf l) table′
   own =
       own-table l supply table table′ (r .built) (D .built)
-      (ap (λ (v : Verdict). numbers v .number) (D .built .answer ∙ fitted-whole (verdictOf l supply) (length table) (omega (arith, accepted-values l supply keeps ok .cycle-is))) ∙ ok)
+      (ap (λ (v : Verdict). verdictAnswer v .number) (D .built .answer ∙ fitted-whole (verdictOf l supply) (length table) (omega (arith, accepted-values l supply keeps ok .cycle-is))) ∙ ok)
 
   -- The drive is a full run,
   unfoldable pub drive-run : FullRun l

@@ -7,12 +7,13 @@ use Prim.Native.Nat.{ℕ, zero, suc, _≤_, _<_}
 use native.Mathlib.Omega.{arith}
 use lib.IntN.{ℤ, pos, natAbs}
 use lib.ListN.{length, getD, replicate, length-replicate}
+use Rattle.basis.specs.Answer.{Answer}
 use Rattle.tasks.specs.declared.Task.{Task}
 use Rattle.tasks.specs.declared.TaskList.{TaskList}
 use Rattle.tasks.specs.List.{listOf}
 use Rattle.tasks.specs.Bounds.{cycleOf}
 use Rattle.verdict.specs.declared.Verdict.{Verdict}
-use Rattle.verdict.specs.Verdict.{verdictOf, Numbers, numbers}
+use Rattle.verdict.specs.Verdict.{verdictOf, verdictAnswer}
 use Rattle.verdict.specs.Table.{tabled, Built}
 use Rattle.start.specs.declared.Asked.the-variants.{Table}
 use Rattle.run.specs.declared.State.{State}
@@ -20,7 +21,7 @@ use Rattle.run.specs.declared.Next.{Next}
 use Rattle.run.specs.Step.{Stepped}
 use Rattle.starred.specs.Lists.{verdict, entries, accepted, late, A, B, C, E, G}
 use Rattle.starred.specs.Starred.{starred}
-use Rattle.promises.specs.Demand1.{build-refused}
+use Rattle.promises.specs.Demand1Holds.{build-refused}
 use Rattle.promises.specs.Demand3.{FullRun, EndsWith}
 use Rattle.promises.specs.Demand3Holds.{reached, has-task, has-job, ends-in-own-slice, logging-shows, one-end-a-slice}
 use Rattle.promises.specs.Exists.{fitted-whole}
@@ -28,35 +29,35 @@ use Rattle.promises.specs.RunOnA.{runOnA}
 
 -- ---- verdicts
 -- What an answer that keeps the verdict's contract says of a list with a supply of 0.
-says : (ts : List Task) (n : Numbers) (v : Verdict) → verdict ts ≡ n → v ≡ verdictOf (listOf ts) 0 → numbers v ≡ n
+says : (ts : List Task) (n : Answer) (v : Verdict) → verdict ts ≡ n → v ≡ verdictOf (listOf ts) 0 → verdictAnswer v ≡ n
 unfolding verdict
-says ts n v is e = ap numbers e ∙ is
+says ts n v is e = ap verdictAnswer e ∙ is
 
 -- A verdict that refuses all: A is accepted.
-pub not-all-refused : (v : Verdict) → v ≡ verdictOf (listOf A) 0 → (numbers v .number ≡ 0 → ⊥) → ⊥
+pub not-all-refused : (v : Verdict) → v ≡ verdictOf (listOf A) 0 → (verdictAnswer v .number ≡ 0 → ⊥) → ⊥
 unfolding accepted
-not-all-refused v a refused = refused (ap (λ (n : Numbers). n .number) (says A _ v (starred .verdict-A) a))
+not-all-refused v a refused = refused (ap (λ (n : Answer). n .number) (says A _ v (starred .verdict-A) a))
 
 -- One verdict for all lists: A is accepted, C is not.
 pub not-one-verdict : (v w : Verdict) → v ≡ verdictOf (listOf A) 0 → w ≡ verdictOf (listOf C) 0 → v ≡ w → ⊥
 unfolding accepted late
 not-one-verdict v w a c same =
-    let number : _≡_ {A = ℕ} 0 7 = sym (ap (λ (n : Numbers). n .number) (says A _ v (starred .verdict-A) a)) ∙ ap (λ (x : Verdict). numbers x .number) same ∙ ap (λ (n : Numbers). n .number) (says C _ w (starred .verdict-C) c) in
+    let number : _≡_ {A = ℕ} 0 7 = sym (ap (λ (n : Answer). n .number) (says A _ v (starred .verdict-A) a)) ∙ ap (λ (x : Verdict). verdictAnswer x .number) same ∙ ap (λ (n : Answer). n .number) (says C _ w (starred .verdict-C) c) in
     omega arith
 
 -- One margin for all lists: A's is 2, B's is 0.
-pub not-one-margin : (v w : Verdict) → v ≡ verdictOf (listOf A) 0 → w ≡ verdictOf (listOf B) 0 → numbers v .signed ≡ numbers w .signed → ⊥
+pub not-one-margin : (v w : Verdict) → v ≡ verdictOf (listOf A) 0 → w ≡ verdictOf (listOf B) 0 → verdictAnswer v .margin ≡ verdictAnswer w .margin → ⊥
 unfolding accepted
 not-one-margin v w a b same =
-    let margin : _≡_ {A = ℤ} (pos 2) (pos 0) = sym (ap (λ (n : Numbers). n .signed) (says A _ v (starred .verdict-A) a)) ∙ same ∙ ap (λ (n : Numbers). n .signed) (says B _ w (starred .verdict-B) b) in
+    let margin : _≡_ {A = ℤ} (pos 2) (pos 0) = sym (ap (λ (n : Answer). n .margin) (says A _ v (starred .verdict-A) a)) ∙ same ∙ ap (λ (n : Answer). n .margin) (says B _ w (starred .verdict-B) b) in
     let size : _≡_ {A = ℕ} 2 0 = ap natAbs margin in
     omega arith
 
 -- One job count for all lists: A has 6 jobs, E has 1.
-pub not-one-job-count : (v w : Verdict) → v ≡ verdictOf (listOf A) 0 → w ≡ verdictOf (listOf E) 0 → numbers v .jobs ≡ numbers w .jobs → ⊥
+pub not-one-job-count : (v w : Verdict) → v ≡ verdictOf (listOf A) 0 → w ≡ verdictOf (listOf E) 0 → verdictAnswer v .jobs ≡ verdictAnswer w .jobs → ⊥
 unfolding accepted
 not-one-job-count v w a e same =
-    let jobs : _≡_ {A = ℕ} 6 1 = sym (ap (λ (n : Numbers). n .jobs) (says A _ v (starred .verdict-A) a)) ∙ same ∙ ap (λ (n : Numbers). n .jobs) (says E _ w (starred .verdict-E) e) in
+    let jobs : _≡_ {A = ℕ} 6 1 = sym (ap (λ (n : Answer). n .jobs) (says A _ v (starred .verdict-A) a)) ∙ same ∙ ap (λ (n : Answer). n .jobs) (says E _ w (starred .verdict-E) e) in
     omega arith
 
 -- ---- tables
@@ -68,16 +69,16 @@ builds ts n new v le T =
 
 begins-A : (a : List ℕ) (v : Verdict) → Built (listOf A) 0 (replicate 12 255) a v → getD a 0 0 ≡ 1
 unfolding accepted
-begins-A a v T = ap (λ (bytes : List ℕ). getD bytes 0 0) (builds A 12 a v (omega (arith, ap (λ (n : Numbers). n .cycle) (starred .verdict-A))) T ∙ starred .table-A)
+begins-A a v T = ap (λ (bytes : List ℕ). getD bytes 0 0) (builds A 12 a v (omega (arith, ap (λ (n : Answer). n .cycle) (starred .verdict-A))) T ∙ starred .table-A)
 
 -- One table for all lists: that of A begins with 1, and for C nothing is written;
 pub not-one-table : (a c : List ℕ) (v w : Verdict) → Built (listOf A) 0 (replicate 12 255) a v → Built (listOf C) 0 (replicate 12 255) c w → a ≡ c → ⊥
 unfolding verdict late
 not-one-table a c v w TA TC same = omega (arith, ap (λ (bytes : List ℕ). getD bytes 0 0) same, begins-A a v TA, begins-C)
   where
-    refused-C : numbers w .number ≡ 0 → ⊥
+    refused-C : verdictAnswer w .number ≡ 0 → ⊥
     refused-C z =
-        let number : _≡_ {A = ℕ} 0 7 = sym z ∙ ap (λ (x : Verdict). numbers x .number) (TC .answer ∙ fitted-whole (verdictOf (listOf C) 0) _ (omega (arith, ap (λ (n : Numbers). n .cycle) (starred .verdict-C)))) ∙ ap (λ (n : Numbers). n .number) (starred .verdict-C) in
+        let number : _≡_ {A = ℕ} 0 7 = sym z ∙ ap (λ (x : Verdict). verdictAnswer x .number) (TC .answer ∙ fitted-whole (verdictOf (listOf C) 0) _ (omega (arith, ap (λ (n : Answer). n .cycle) (starred .verdict-C)))) ∙ ap (λ (n : Answer). n .number) (starred .verdict-C) in
         omega arith
 
     begins-C : getD c 0 0 ≡ 255
@@ -89,7 +90,7 @@ unfolding accepted
 not-one-accepted-table a g v w TA TG same = omega (arith, ap (λ (bytes : List ℕ). getD bytes 0 0) same, begins-A a v TA, begins-G)
   where
     begins-G : getD g 0 0 ≡ 2
-    begins-G = ap (λ (bytes : List ℕ). getD bytes 0 0) (builds G 12 g w (omega (arith, ap (λ (n : Numbers). n .cycle) (starred .verdict-G))) TG ∙ starred .table-G)
+    begins-G = ap (λ (bytes : List ℕ). getD bytes 0 0) (builds G 12 g w (omega (arith, ap (λ (n : Answer). n .cycle) (starred .verdict-G))) TG ∙ starred .table-G)
 
 -- ---- steps
 module _ (l : TaskList) (F : FullRun l) where

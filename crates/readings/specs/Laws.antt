@@ -1,25 +1,21 @@
 -- Reading the number of a case gives the case, and a number that was read is the number of its reading.
 use mathlib.Core.Path.{_≡_, refl, sym, ap, _∙_}
 use mathlib.Core.Bool.{Bool, true, false, and-false}
-use mathlib.Core.Logic.{_⊎_, inl, inr}
+use mathlib.Core.Logic.{_⊎_, inl, inr, ⊎-elim}
 use Prim.Native.Nat.{ℕ, _≤_, _<_}
 use native.Mathlib.Omega.{arith}
 use lib.Dec.{eqb}
 use borrow.Author.Tests.{le-leb, lt-leb, ne-eqb, eqb-true}
-use Rattle.basis.specs.Choose.{choose}
+use Rattle.basis.specs.Choose.{choose, within, is-within, le-or-lt, eq-or-ne}
+use Rattle.readings.specs.declared.Entry.{Entry}
 use Rattle.readings.specs.declared.Entry.the-variants.{Idle, Task, NoEntry}
 use Rattle.readings.specs.declared.Refusal.the-variants.{Bound, Lateness, ShortTable, Run, Program, Conversion, NoRefusal}
 use Rattle.readings.specs.declared.Logged.the-variants.{NoResult, Done, Over, Late, Damaged}
-use Rattle.readings.specs.Reading.{between, entryOf, refusalOf, loggedOf, entryByte, refusalNumber, loggedByte}
+use Rattle.readings.specs.Reading.{entryOf, refusalOf, loggedOf, entryByte, refusalNumber, loggedByte}
 
-module _ (a b n : ℕ) where
-  inside : a ≤ n → n ≤ b → between a b n ≡ true
-  unfolding between
-  inside l u = rw (le-leb a n l, le-leb n b u)
-
-  above : b < n → between a b n ≡ false
-  unfolding between
-  above o = rw (lt-leb n b o, and-false)
+above : (a b n : ℕ) → b < n → within a b n ≡ false
+unfolding within
+above a b n o = rw (lt-leb n b o, and-false)
 
 -- A choice has the number n, if each of its sides has it that can be taken.
 module _ {A : Type 0} (number : A → ℕ) (n : ℕ) where
@@ -29,13 +25,22 @@ module _ {A : Type 0} (number : A → ℕ) (n : ℕ) where
   of-choice false x y h k = k
 
 -- ---- entries
+-- which case it is
+unfoldable caseOf : Entry → ℕ
+caseOf Idle = 0
+caseOf (Task i) = 1
+caseOf (NoEntry byte) = 2
+
+apart : {A : Type 0} {x y : Entry} → x ≡ y → (caseOf x ≡ caseOf y → ⊥) → A
+apart e ne = absurd (ne (ap caseOf e))
+
 pub reads-idle : (count : ℕ) → entryOf 0 count ≡ Idle
 unfolding entryOf choose
 reads-idle count = refl
 
 pub reads-task : (i count : ℕ) → 1 ≤ i → i ≤ 16 → i ≤ count → entryOf i count ≡ Task i
 unfolding entryOf choose
-reads-task i count l u within = rw (ne-eqb i 0 (λ e. omega arith), inside 1 16 i l u, le-leb i count within)
+reads-task i count l u within = rw (ne-eqb i 0 (λ e. omega arith), is-within 1 16 i l u, le-leb i count within)
 
 pub reads-no-entry : (byte count : ℕ) → 1 ≤ byte → (16 < byte) ⊎ (count < byte) → entryOf byte count ≡ NoEntry byte
 unfolding entryOf choose
@@ -47,33 +52,55 @@ unfolding entryOf entryByte
 entry-byte byte count =
     of-choice entryByte byte _ _ _ (λ h. sym (eqb-true byte 0 h)) (of-choice entryByte byte _ _ _ (λ h. refl) refl)
 
+-- What a byte is that reads so, of at most 16 tasks.
+pub idle-read : (byte count : ℕ) → entryOf byte count ≡ Idle → byte ≡ 0
+unfolding entryByte
+idle-read byte count e = sym (entry-byte byte count) ∙ ap entryByte e
+
+pub task-read : (byte count i : ℕ) → entryOf byte count ≡ Task i → (byte ≡ i) × (1 ≤ byte) × (byte ≤ count)
+unfolding entryByte caseOf
+task-read byte count i e =
+    let same : byte ≡ i = sym (entry-byte byte count) ∙ ap entryByte e in
+    ⊎-elim
+    (λ (z : byte ≡ 0). apart (sym (ap (λ (x : ℕ). entryOf x count) z ∙ reads-idle count) ∙ e) (λ q. omega arith))
+    (λ (nz : byte ≡ 0 → ⊥). ⊎-elim (λ (l : byte ≤ count). (same, omega arith, l)) (λ (l : count < byte). apart (sym (reads-no-entry byte count (omega arith) (inr l)) ∙ e) (λ q. omega arith)) (le-or-lt byte count))
+    (eq-or-ne byte 0)
+
+pub no-entry-read : (byte count x : ℕ) → count ≤ 16 → entryOf byte count ≡ NoEntry x → count < byte
+unfolding caseOf
+no-entry-read byte count x few e =
+    ⊎-elim
+    (λ (l : byte ≤ count). ⊎-elim (λ (z : byte ≡ 0). apart (sym (ap (λ (y : ℕ). entryOf y count) z ∙ reads-idle count) ∙ e) (λ q. omega arith)) (λ (nz : byte ≡ 0 → ⊥). apart (sym (reads-task byte count (omega arith) (omega arith) l) ∙ e) (λ q. omega arith)) (eq-or-ne byte 0))
+    (λ l. l)
+    (le-or-lt byte count)
+
 -- ---- numbers of refusal
 pub reads-bound : (n : ℕ) → 1 ≤ n → n ≤ 6 → refusalOf n ≡ Bound n
 unfolding refusalOf choose
-reads-bound n l u = rw (inside 1 6 n l u)
+reads-bound n l u = rw (is-within 1 6 n l u)
 
 pub reads-refusals : (refusalOf 7 ≡ Lateness) × (refusalOf 8 ≡ ShortTable) × (refusalOf 17 ≡ Conversion)
-unfolding refusalOf choose between
+unfolding refusalOf choose within
 reads-refusals = (refl, refl, refl)
 
 -- past 8, what is left to tell apart
 past-eight :
     (n : ℕ)
     → 8 < n
-    → refusalOf n ≡ choose (between 9 14 n) (Run n) (choose (between 15 16 n) (Program n) (choose (eqb n 17) Conversion (NoRefusal n)))
+    → refusalOf n ≡ choose (within 9 14 n) (Run n) (choose (within 15 16 n) (Program n) (choose (eqb n 17) Conversion (NoRefusal n)))
 unfolding refusalOf choose
 past-eight n l = rw (above 1 6 n (omega arith), ne-eqb n 7 (λ e. omega arith), ne-eqb n 8 (λ e. omega arith))
 
 pub reads-run : (n : ℕ) → 9 ≤ n → n ≤ 14 → refusalOf n ≡ Run n
 unfolding choose
-reads-run n l u = rw (past-eight n l, inside 9 14 n l u)
+reads-run n l u = rw (past-eight n l, is-within 9 14 n l u)
 
 pub reads-program : (n : ℕ) → 15 ≤ n → n ≤ 16 → refusalOf n ≡ Program n
 unfolding choose
-reads-program n l u = rw (past-eight n (omega arith), above 9 14 n l, inside 15 16 n l u)
+reads-program n l u = rw (past-eight n (omega arith), above 9 14 n l, is-within 15 16 n l u)
 
 pub reads-no-refusal : (n : ℕ) → (n ≡ 0) ⊎ (17 < n) → refusalOf n ≡ NoRefusal n
-unfolding refusalOf choose between
+unfolding refusalOf choose within
 reads-no-refusal n (inl e) = rw e
 reads-no-refusal n (inr beyond) =
     rw (past-eight n (omega arith), above 9 14 n (omega arith), above 15 16 n (omega arith), ne-eqb n 17 (λ e. omega arith))

@@ -1,8 +1,8 @@
 -- How the paper reads an entry of a table, a number of refusal and a byte of the log, and the number of each case.
-use mathlib.Core.Bool.{Bool, _&&_}
+use mathlib.Core.Bool.{_&&_}
 use Prim.Native.Nat.{ℕ}
 use lib.Dec.{leb, eqb}
-use Rattle.basis.specs.Choose.{choose}
+use Rattle.basis.specs.Choose.{choose, within}
 use Rattle.readings.specs.declared.Entry.{Entry}
 use Rattle.readings.specs.declared.Entry.the-variants.{Idle, Task, NoEntry}
 use Rattle.readings.specs.declared.Refusal.{Refusal}
@@ -10,26 +10,22 @@ use Rattle.readings.specs.declared.Refusal.the-variants.{Bound, Lateness
 use Rattle.readings.specs.declared.Logged.{Logged}
 use Rattle.readings.specs.declared.Logged.the-variants.{NoResult, Done, Over, Late, Damaged}
 
--- n is from a to b, both included
-unfoldable pub between : ℕ → ℕ → ℕ → Bool
-between a b n = leb a n && leb n b
-
 -- An entry: 0 idle, 1 to 16 a task, anything above the task count no entry at all.
 unfoldable pub entryOf : ℕ → ℕ → Entry
 entryOf byte count =
     choose (eqb byte 0) Idle
-    (choose (between 1 16 byte && leb byte count) (Task byte)
+    (choose (within 1 16 byte && leb byte count) (Task byte)
     (NoEntry byte))
 
 -- Numbers of refusal: 1 to 6 bound the list, 7 a deadline missed, 8 the table lent is too short, 9 to 14 the run,
 -- 15 and 16 the program, 17 the conversion.
 unfoldable pub refusalOf : ℕ → Refusal
 refusalOf n =
-    choose (between 1 6 n) (Bound n)
+    choose (within 1 6 n) (Bound n)
     (choose (eqb n 7) Lateness
     (choose (eqb n 8) ShortTable
-    (choose (between 9 14 n) (Run n)
-    (choose (between 15 16 n) (Program n)
+    (choose (within 9 14 n) (Run n)
+    (choose (within 15 16 n) (Program n)
     (choose (eqb n 17) Conversion
     (NoRefusal n))))))
 

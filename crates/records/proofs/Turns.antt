@@ -1,28 +1,30 @@
 -- One turn of the loop over the bytes, as laws over plain values.
-use mathlib.Core.Path.{_≡_, refl, sym, ap, _∙_}
-use mathlib.Core.Bool.{Bool, true, false, true≢false}
-use mathlib.Core.List.{List, []}
+use mathlib.Core.Path.{_≡_, sym, ap, subst, _∙_}
+use mathlib.Core.Bool.{true, false, true≢false}
+use mathlib.Core.List.{List, [], _∷_}
 use mathlib.Core.Logic.{⊎-elim}
 use Prim.Native.Nat.{ℕ, suc, _+_, _≤_, _<_}
 use native.Mathlib.Omega.{arith}
 use native.Mathlib.Numerals.{add-one}
-use lib.Dec.{eqb}
-use lib.ListN.{length, getD, drop, drop-of-length-le}
-use lib.Seq.{drop-cons}
-use borrow.Author.Tests.{ne-eqb}
-use Rattle.basis.specs.Choose.{choose, choose-either, eq-or-ne}
+use lib.ListN.{length, getD, drop, drop-of-length-le, List·getD-eq-default}
+use lib.Seq.{drop-cons, getD-drop, drop-drop}
+use Rattle.basis.specs.Choose.{choose-either, le-or-lt}
 use Rattle.tasks.specs.declared.TaskList.{TaskList}
 use Rattle.tasks.specs.List.{listOf}
 use Rattle.records.specs.declared.Form.{Form}
 use Rattle.records.specs.declared.Form.the-variants.{Good, Bad}
 use Rattle.records.specs.declared.Parsed.{Parsed}
 use Rattle.records.specs.declared.Line.{Line}
-use Rattle.records.specs.Shapes.{fresh, kept, closeGood, closeAs, closeLine, isPair, lineAfter, readAfter, atEnd, scan, nothing, parsedOf}
+use Rattle.records.specs.Grammar.{readOf, Reads}
+use Rattle.records.specs.LineEnds.{isPair, linesOf, lines-pair, lines-byte}
+use Rattle.records.specs.Shapes.{fresh, withByte, kept, closeGood, closeAs, closeLine, atEnd, readFrom, nothing, parsedOf}
+use Rattle.records.specs.Reading.{byte-read, fresh-read, line-read, parsed-reads}
 
--- Each line that is counted took the two bytes of its CRLF, and a CR held back is one byte more.
-pub record Counted (i : ℕ) (read : Parsed) (cr : Bool) : Type 0 where
-  pub lines : read .list .count + read .list .count ≤ i
-  pub held : cr ≡ true → suc (read .list .count + read .list .count) ≤ i
+-- What is left to read comes to the answer of the whole input; and each line that is counted took the two bytes of its CRLF.
+pub record Reached (input : List ℕ) (read : Parsed) (line : Line) (i : ℕ) : Type 0 where
+  pub within : i ≤ length input
+  pub left : readFrom read line (linesOf (drop i input)) ≡ parsedOf input
+  pub counted : read .list .count + read .list .count ≤ i
 
 line-by-form : (f : Form) (p : Parsed) (s : Line) → closeAs f p s .list .count ≤ p .list .count + 1
 unfolding closeAs closeGood kept listOf
@@ -36,32 +38,56 @@ one-line-more : (p : Parsed) (s : Line) → closeLine p s .list .count ≤ p .li
 unfolding closeLine
 one-line-more p s = line-by-form (p .form) p s
 
-pub no-byte-yet : (input : List ℕ) (l : TaskList) (s : Line) → l ≡ listOf [] → s ≡ fresh → scan (record { form = Good; list = l }) s false input ≡ parsedOf input
-unfolding parsedOf nothing
-no-byte-yet input l s el es = rw (el, es)
+pub no-byte-yet : (input : List ℕ) (l : TaskList) (s : Line) → l ≡ listOf [] → s ≡ fresh → Reached input (record { form = Good; list = l }) s 0
+unfolding parsedOf nothing listOf
+no-byte-yet input l s el es =
+    rw (el, es) (record { within = omega arith; left = fresh-read nothing (linesOf input); counted = omega arith })
 
-pub none-counted : (l : TaskList) → l ≡ listOf [] → Counted 0 (record { form = Good; list = l }) false
-unfolding listOf
-none-counted l e = rw e (record { lines = omega arith; held = λ (t : false ≡ true). absurd (true≢false (sym t)) })
-
-pub one-byte-more : (input : List ℕ) (i : ℕ) (p q : Parsed) (s t : Line) (cr : Bool) (r : Parsed) → i < length input → scan p s cr (drop i input) ≡ r
-    → q ≡ readAfter p s cr (getD input i 0) → t ≡ lineAfter s cr (getD input i 0) → scan q t (eqb (getD input i 0) 13) (drop (i + 1) input) ≡ r
-unfolding scan
-one-byte-more input i p q s t cr r l e eq et = rw (eq, et, add-one) (ap (scan p s cr) (sym (drop-cons input i 0 l)) ∙ e)
-
-pub no-byte-more : (input : List ℕ) (i : ℕ) (p q : Parsed) (s : Line) (cr : Bool) (r : Parsed) → length input ≤ i → scan p s cr (drop i input) ≡ r → q ≡ atEnd p s cr → q ≡ r
-unfolding scan
-no-byte-more input i p q s cr r l e eq = eq ∙ ap (scan p s cr) (sym (drop-of-length-le input l)) ∙ e
-
-pub counted-on : (i : ℕ) (p q : Parsed) (s : Line) (cr : Bool) (b : ℕ) → Counted i p cr → q ≡ readAfter p s cr b → Counted (i + 1) q (eqb b 13)
-unfolding readAfter isPair choose
-counted-on i p q s true b C e =
+-- a pair stands within the input
+pub pair-inside : (input : List ℕ) (i : ℕ) → isPair (getD input i 0) (getD input (i + 1) 0) ≡ true → i + 1 < length input
+unfolding isPair
+pair-inside input i t =
     ⊎-elim
-    (λ (z : b ≡ 10). rw (e, z) (record { lines = omega (arith, one-line-more p s, C .held refl); held = λ (f : false ≡ true). absurd (true≢false (sym f)) }))
-    (λ (nz : b ≡ 10 → ⊥). rw (e, ne-eqb b 10 nz) (record { lines = omega (arith, C .lines); held = λ _. omega (arith, C .lines) }))
-    (eq-or-ne b 10)
-counted-on i p q s false b C e =
-    ⊎-elim
-    (λ (z : b ≡ 10). rw (e, z) (record { lines = omega (arith, C .lines); held = λ _. omega (arith, C .lines) }))
-    (λ (nz : b ≡ 10 → ⊥). rw (e, ne-eqb b 10 nz) (record { lines = omega (arith, C .lines); held = λ _. omega (arith, C .lines) }))
-    (eq-or-ne b 10)
+    (λ (o : length input ≤ i + 1). absurd (true≢false (sym t ∙ ap (isPair (getD input i 0)) (List·getD-eq-default input 0 o))))
+    (λ (k : i + 1 < length input). k)
+    (le-or-lt (length input) (i + 1))
+
+module _ (input : List ℕ) (i : ℕ) (p : Parsed) (s : Line) (l : i < length input) (R : Reached input p s i) where
+  -- the byte, and what stands behind it
+  behind : getD (drop (suc i) input) 0 0 ≡ getD input (i + 1) 0
+  behind = getD-drop (suc i) input 0 0 ∙ ap (λ (j : ℕ). getD input j 0) (omega arith)
+
+  here : readFrom p s (linesOf (getD input i 0 ∷ drop (suc i) input)) ≡ parsedOf input
+  here = ap (λ (x : List ℕ). readFrom p s (linesOf x)) (sym (drop-cons input i 0 l)) ∙ R .left
+
+  pub line-ends : (q : Parsed) (n : Line) → isPair (getD input i 0) (getD input (i + 1) 0) ≡ true → q ≡ closeLine p s → n ≡ fresh → Reached input q n (i + 2)
+  line-ends q n t eq en =
+      let two : i + 2 ≡ suc i + 1 = omega arith in
+      rw (eq, en)
+      (record {
+        within = omega (arith, pair-inside input i t);
+        left =
+            ap (λ (x : List ℕ). readFrom (closeLine p s) fresh (linesOf x)) (ap (λ (j : ℕ). drop j input) two ∙ sym (drop-drop 1 (suc i) input))
+            ∙ line-read p s (linesOf (drop 1 (drop (suc i) input)))
+            ∙ ap (readFrom p s) (sym (lines-pair (getD input i 0) (drop (suc i) input) (ap (isPair (getD input i 0)) behind ∙ t)))
+            ∙ here;
+        counted = omega (arith, one-line-more p s, R .counted);
+      })
+
+  pub line-goes-on : (n : Line) → isPair (getD input i 0) (getD input (i + 1) 0) ≡ false → n ≡ withByte s (getD input i 0) → Reached input p n (i + 1)
+  line-goes-on n f en =
+      rw (en, add-one)
+      (record {
+        within = l;
+        left =
+            byte-read p s (getD input i 0) (linesOf (drop (suc i) input))
+            ∙ ap (readFrom p s) (sym (lines-byte (getD input i 0) (drop (suc i) input) (ap (isPair (getD input i 0)) behind ∙ f)))
+            ∙ here;
+        counted = omega (arith, R .counted);
+      })
+
+pub no-byte-more : (input : List ℕ) (i : ℕ) (p q : Parsed) (s : Line) → length input ≤ i → Reached input p s i → q ≡ atEnd p s → Reads input (readOf q)
+unfolding readFrom linesOf
+no-byte-more input i p q s l R e =
+    let all = e ∙ ap (λ (x : List ℕ). readFrom p s (linesOf x)) (sym (drop-of-length-le input l)) ∙ R .left in
+    subst (λ (r : Parsed). Reads input (readOf r)) (sym all) (parsed-reads input)

@@ -3,6 +3,7 @@ use mathlib.Core.Path.{_≡_}
 use mathlib.Core.List.{List, [], _∷_, _++_}
 use Prim.Native.Nat.{ℕ, suc, _+_, _-_, _*_, _≤_, _<_}
 use lib.ListN.{length, getD}
+use Rattle.basis.specs.Answer.{Answer, refusal, none}
 use Rattle.tasks.specs.declared.Task.{Task}
 use Rattle.tasks.specs.declared.TaskList.{TaskList}
 use Rattle.tasks.specs.List.{listOf}
@@ -64,29 +65,28 @@ pub data Rows : List (List ℕ) → List Task → Type 0 where
   no-rows : Rows [] []
   row : {line : List ℕ} {t : Task} {lines : List (List ℕ)} {ts : List Task} → Row line t → Rows lines ts → Rows (line ∷ lines) (t ∷ ts)
 
--- An answer in the paper's numbers: the refusal, 0 for none, the line that it names, and the list.
-pub record Answer : Type 0 where
-  pub refusal : ℕ
-  pub line : ℕ
+-- What is read: the answer, in which the line stands for the task, and the list.
+pub record Read : Type 0 where
+  pub answer : Answer
   pub list : TaskList
 
-unfoldable pub accepted : List Task → Answer
-accepted ts = record { refusal = 0; line = 0; list = listOf ts }
+unfoldable pub accepted : List Task → Read
+accepted ts = record { answer = none; list = listOf ts }
 
 -- Refused, the list is that of no tasks.
-unfoldable pub refused : ℕ → Answer
-refused n = record { refusal = 15; line = n; list = listOf [] }
+unfoldable pub refused : ℕ → Read
+refused n = record { answer = refusal 15 n; list = listOf [] }
 
--- each case of the answer
-unfoldable pub numbers : Form → TaskList → Answer
-numbers Good l = record { refusal = 0; line = 0; list = l }
-numbers (Bad n) l = record { refusal = 15; line = n; list = l }
+-- The paper's values of each case.
+unfoldable pub formAnswer : Form → Answer
+formAnswer Good = none
+formAnswer (Bad n) = refusal 15 n
 
-unfoldable pub paper : Parsed → Answer
-paper r = numbers (r .form) (r .list)
+unfoldable pub readOf : Parsed → Read
+readOf r = record { answer = formAnswer (r .form); list = r .list }
 
 -- What reading an input answers: the list of the tasks if every line is in form; else refusal 15 for the first line that is not,
 -- counted from 1.
-pub data Reads (input : List ℕ) : Answer → Type 0 where
+pub data Reads (input : List ℕ) : Read → Type 0 where
   good : {lines : List (List ℕ)} {ts : List Task} → Lines input lines → Rows lines ts → Reads input (accepted ts)
   bad : {ts : List Task} (before : List (List ℕ)) (line : List ℕ) (after : List (List ℕ)) → Lines input (before ++ line ∷ after) → Rows before ts → ((t : Task) → Row line t → ⊥) → Reads input (refused (suc (length before)))

@@ -1,39 +1,41 @@
 -- The lines of an input as a function, and that the grammar's lines are exactly these.
-use mathlib.Core.Path.{_≡_, refl, sym, ap, subst, _∙_}
-use mathlib.Core.Bool.{Bool, true, false}
+use mathlib.Core.Path.{_≡_, refl, sym, ap, ap₂, _∙_}
+use mathlib.Core.Bool.{Bool, true, false, true≢false, _&&_}
 use mathlib.Core.List.{List, [], _∷_, _++_}
 use mathlib.Core.Logic.{⊎-elim}
 use Prim.Native.Nat.{ℕ, zero, suc, _≤_}
 use native.Mathlib.Omega.{arith}
 use lib.Dec.{eqb}
-use lib.ListN.{length, getD}
-use borrow.Author.Tests.{ne-eqb, eqb-true, eqb-false}
-use Rattle.basis.specs.Choose.{choose, choose-yes, choose-no, eq-or-ne}
+use lib.ListN.{length, getD, drop}
+use borrow.Author.Tests.{eqb-true}
+use Rattle.basis.specs.Choose.{bool-cases, both-true}
 use Rattle.records.specs.Grammar.{CR, LF, NoPair, Lines, no-more, unclosed, closed}
+
+-- a CR, and an LF right behind it
+unfoldable pub isPair : ℕ → ℕ → Bool
+isPair b c = eqb c LF && eqb b CR
 
 -- a byte before the first of the lines
 unfoldable pub push : ℕ → List (List ℕ) → List (List ℕ)
 push b [] = (b ∷ []) ∷ []
 push b (l ∷ ls) = (b ∷ l) ∷ ls
 
--- a CR is held back: what follows it tells where it belongs
-unfoldable pub held : ℕ → List (List ℕ) → List (List ℕ)
-held b ls = choose (eqb b CR) ls (push b ls)
-
-unfoldable pub ahead : Bool → ℕ → List (List ℕ) → List (List ℕ)
-ahead cr b ls = choose cr (choose (eqb b LF) ([] ∷ ls) (push CR (held b ls))) (held b ls)
-
--- The lines of the bytes, with a CR before them if one is held back.
-unfoldable pub linesFrom : Bool → List ℕ → List (List ℕ)
-linesFrom cr [] = choose cr ((CR ∷ []) ∷ []) []
-linesFrom cr (b ∷ bs) = ahead cr b (linesFrom (eqb b CR) bs)
-
+-- By `elim`, so that of the two ways on only the one that is taken is computed.
 unfoldable pub linesOf : List ℕ → List (List ℕ)
-linesOf = linesFrom false
+linesOf [] = []
+linesOf (b ∷ []) = push b []
+linesOf (b ∷ c ∷ rest) = elim (isPair b c) [ true ↦ [] ∷ linesOf rest | false ↦ push b (linesOf (c ∷ rest)) ]
 
-abbrev text : Bool → List ℕ → List ℕ
-text true bs = CR ∷ bs
-text false bs = bs
+-- A pair ends the line, and any other byte belongs to it.
+pub lines-pair : (b : ℕ) (bs : List ℕ) → isPair b (getD bs 0 0) ≡ true → linesOf (b ∷ bs) ≡ [] ∷ linesOf (drop 1 bs)
+unfolding linesOf isPair
+lines-pair b [] t = absurd (true≢false (sym t))
+lines-pair b (c ∷ rest) t = ap (λ (x : Bool). elim x as (λ y. List (List ℕ)) [ true ↦ [] ∷ linesOf rest | false ↦ push b (linesOf (c ∷ rest)) ]) t
+
+pub lines-byte : (b : ℕ) (bs : List ℕ) → isPair b (getD bs 0 0) ≡ false → linesOf (b ∷ bs) ≡ push b (linesOf bs)
+unfolding linesOf
+lines-byte b [] f = refl
+lines-byte b (c ∷ rest) f = ap (λ (x : Bool). elim x as (λ y. List (List ℕ)) [ true ↦ [] ∷ linesOf rest | false ↦ push b (linesOf (c ∷ rest)) ]) f
 
 -- ---- they are the grammar's lines
 pair-cons : (b : ℕ) (l : List ℕ) → NoPair l → (b ≡ CR → getD l 0 0 ≡ LF → ⊥) → NoPair (b ∷ l)
@@ -55,82 +57,56 @@ push-lines b no-more h = unclosed (pair-cons b [] no-pair-in-none h) (omega arit
 push-lines b (unclosed {line = l} np pos) h = unclosed (pair-cons b l np h) (omega arith)
 push-lines b (closed {line = l} {rest = rest} np L) h = closed {line = b ∷ l} (pair-cons b l np (before-pair b l (LF ∷ rest) h)) L
 
-held-back : (b : ℕ) (ls : List (List ℕ)) → eqb b CR ≡ true → held b ls ≡ ls
-unfolding held
-held-back b ls t = choose-yes _ _ _ t
+-- what the test tells
+is-pair : (b c : ℕ) → isPair b c ≡ true → (b ≡ CR) × (c ≡ LF)
+unfolding isPair
+is-pair b c t = let e = both-true (eqb c LF) (eqb b CR) .0 t in (eqb-true b CR (e .1), eqb-true c LF (e .0))
 
-not-held : (b : ℕ) (ls : List (List ℕ)) → eqb b CR ≡ false → held b ls ≡ push b ls
-unfolding held
-not-held b ls f = choose-no _ _ _ f
+not-pair : (b c : ℕ) → isPair b c ≡ false → b ≡ CR → c ≡ LF → ⊥
+unfolding isPair
+not-pair b c f e z = true≢false (sym (ap₂ isPair e z) ∙ f)
 
-held-lines : (b : ℕ) (bs : List ℕ) (cr : Bool) → eqb b CR ≡ cr → Lines (text cr bs) (linesFrom cr bs) → Lines (b ∷ bs) (held b (linesFrom cr bs))
-held-lines b bs true t L = rw (held-back b (linesFrom true bs) t, eqb-true b CR t) L
-held-lines b bs false f L = rw (not-held b (linesFrom false bs) f) (push-lines b L (λ e _. eqb-false b CR f e))
+no-pair : (b c : ℕ) → (b ≡ CR → c ≡ LF → ⊥) → isPair b c ≡ false
+no-pair b c h =
+    ⊎-elim (λ (t : isPair b c ≡ true). let e = is-pair b c t in absurd (h (e .0) (e .1))) (λ (f : isPair b c ≡ false). f) (bool-cases (isPair b c))
 
-pub lines-from : (cr : Bool) (bs : List ℕ) → Lines (text cr bs) (linesFrom cr bs)
-unfolding linesFrom ahead choose
-lines-from true [] = unclosed (pair-cons CR [] no-pair-in-none (λ _ z. omega arith)) (omega arith)
-lines-from false [] = no-more
-lines-from false (b ∷ bs) = held-lines b bs (eqb b CR) refl (lines-from (eqb b CR) bs)
-lines-from true (b ∷ bs) =
+pub lines-of : (bs : List ℕ) → Lines bs (linesOf bs)
+unfolding linesOf
+lines-of [] = no-more
+lines-of (b ∷ []) = push-lines b no-more (λ _ z. omega arith)
+lines-of (b ∷ c ∷ rest) =
     ⊎-elim
-    (λ (e : b ≡ LF). rw e (closed {line = []} no-pair-in-none (lines-from false bs)))
-    (λ (ne : b ≡ LF → ⊥). rw (ne-eqb b LF ne) (push-lines CR (held-lines b bs (eqb b CR) refl (lines-from (eqb b CR) bs)) (λ _ z. ne z)))
-    (eq-or-ne b LF)
+    (λ (t : isPair b c ≡ true).
+    let e = is-pair b c t in
+    rw (lines-pair b (c ∷ rest) t, e .0, e .1) (closed {line = []} no-pair-in-none (lines-of rest)))
+    (λ (f : isPair b c ≡ false). rw (lines-byte b (c ∷ rest) f) (push-lines b (lines-of (c ∷ rest)) (not-pair b c f)))
+    (bool-cases (isPair b c))
 
 -- ---- and no others are
 pair-tail : (b : ℕ) (l : List ℕ) → NoPair (b ∷ l) → NoPair l
 unfolding NoPair
 pair-tail b l np i = np (suc i)
 
-pair-text : (b : ℕ) (l : List ℕ) (cr : Bool) → eqb b CR ≡ cr → NoPair (b ∷ l) → NoPair (text cr l)
-pair-text b l true t np = subst (λ (x : ℕ). NoPair (x ∷ l)) (eqb-true b CR t) np
-pair-text b l false f np = pair-tail b l np
+pair-next : (b : ℕ) (l rest : List ℕ) → NoPair (b ∷ l) → b ≡ CR → getD (l ++ CR ∷ rest) 0 0 ≡ LF → ⊥
+unfolding NoPair
+pair-next b [] rest np e z = omega arith
+pair-next b (c ∷ l) rest np e z = np 0 e z
 
--- a byte held back is back in its line
-held-text : (b : ℕ) (l : List ℕ) (ls : List (List ℕ)) (cr : Bool) → eqb b CR ≡ cr → held b (text cr l ∷ ls) ≡ (b ∷ l) ∷ ls
-unfolding push
-held-text b l ls true t = held-back b ((CR ∷ l) ∷ ls) t ∙ ap (λ (x : ℕ). (x ∷ l) ∷ ls) (sym (eqb-true b CR t))
-held-text b l ls false f = not-held b (l ∷ ls) f
+line-closed : (l rest : List ℕ) → NoPair l → linesOf (l ++ CR ∷ LF ∷ rest) ≡ l ∷ linesOf rest
+unfolding push isPair
+line-closed [] rest np = lines-pair CR (LF ∷ rest) refl
+line-closed (b ∷ l) rest np =
+    lines-byte b (l ++ CR ∷ LF ∷ rest) (no-pair b _ (pair-next b l (LF ∷ rest) np)) ∙ ap (push b) (line-closed l rest (pair-tail b l np))
 
--- and so is a CR before it, since no LF follows that CR
-ahead-text : (cr : Bool) (b : ℕ) (l : List ℕ) (ls rest : List (List ℕ)) → NoPair (text cr (b ∷ l)) → held b ls ≡ (b ∷ l) ∷ rest → ahead cr b ls ≡ text cr (b ∷ l) ∷ rest
-unfolding ahead choose NoPair push
-ahead-text false b l ls rest np e = e
-ahead-text true b l ls rest np e = rw (ne-eqb b LF (λ z. np 0 refl z), e)
-
-no-pair-on : (cr : Bool) (b : ℕ) (l : List ℕ) → NoPair (text cr (b ∷ l)) → NoPair (text (eqb b CR) l)
-no-pair-on false b l np = pair-text b l (eqb b CR) refl np
-no-pair-on true b l np = pair-text b l (eqb b CR) refl (pair-tail CR (b ∷ l) np)
-
-line-closed : (l rest : List ℕ) (cr : Bool) → NoPair (text cr l) → linesFrom cr (l ++ CR ∷ LF ∷ rest) ≡ text cr l ∷ linesFrom false rest
-unfolding linesFrom ahead held push choose
-line-closed [] rest true np = refl
-line-closed [] rest false np = refl
-line-closed (b ∷ l) rest cr np =
-    ahead-text cr b l _ (linesFrom false rest) np
-    (ap (held b) (line-closed l rest (eqb b CR) (no-pair-on cr b l np)) ∙ held-text b l (linesFrom false rest) (eqb b CR) refl)
-
-last-byte : (b : ℕ) (cr : Bool) → eqb b CR ≡ cr → held b (linesFrom cr []) ≡ (b ∷ []) ∷ []
-unfolding linesFrom choose push
-last-byte b true t = held-text b [] [] true t
-last-byte b false f = not-held b [] f
-
-line-unclosed : (l : List ℕ) (cr : Bool) → NoPair (text cr l) → 1 ≤ length (text cr l) → linesFrom cr l ≡ text cr l ∷ []
-unfolding linesFrom choose
-line-unclosed [] true np pos = refl
-line-unclosed [] false np pos = absurd (omega arith)
-line-unclosed (b ∷ []) cr np pos = ahead-text cr b [] (linesFrom (eqb b CR) []) [] np (last-byte b (eqb b CR) refl)
-line-unclosed (b ∷ c ∷ l) cr np pos =
-    ahead-text cr b (c ∷ l) _ [] np
-    (ap (held b) (line-unclosed (c ∷ l) (eqb b CR) (no-pair-on cr b (c ∷ l) np) (some (eqb b CR))) ∙ held-text b (c ∷ l) [] (eqb b CR) refl)
-  where
-    some : (cr : Bool) → 1 ≤ length (text cr (c ∷ l))
-    some true = omega arith
-    some false = omega arith
+line-unclosed : (l : List ℕ) → NoPair l → 1 ≤ length l → linesOf l ≡ l ∷ []
+unfolding linesOf push NoPair
+line-unclosed [] np pos = absurd (omega arith)
+line-unclosed (b ∷ []) np pos = refl
+line-unclosed (b ∷ c ∷ l) np pos =
+    lines-byte b (c ∷ l) (no-pair b c (np 0)) ∙ ap (push b) (line-unclosed (c ∷ l) (pair-tail b (c ∷ l) np) (omega arith))
 
 pub lines-only : {input : List ℕ} {ls : List (List ℕ)} → Lines input ls → ls ≡ linesOf input
-unfolding linesOf linesFrom choose
+unfolding linesOf
 lines-only no-more = refl
-lines-only (unclosed {line = l} np pos) = sym (line-unclosed l false np pos)
-lines-only (closed {line = l} {rest = rest} np L) = ap (λ (x : List (List ℕ)). l ∷ x) (lines-only L) ∙ sym (line-closed l rest false np)
+lines-only (unclosed {line = l} np pos) = sym (line-unclosed l np pos)
+lines-only (closed {line = l} {rest = rest} np L) = ap (λ (x : List (List ℕ)). l ∷ x) (lines-only L) ∙ sym (line-closed l rest np)

@@ -1,14 +1,17 @@
 -- Inputs worked by hand: what the grammar answers to each.
+use mathlib.Core.Path.{_≡_, subst}
 use mathlib.Core.List.{List, [], _∷_, _++_}
 use Prim.Native.Nat.{ℕ, zero, suc}
 use Prim.Native.Char.{code}
 use Prim.Native.String.{String, [] as none, _∷_ as _then_}
 use Rattle.basis.specs.Choose.{choose}
 use Rattle.basis.specs.Bytes.{overwrite}
+use Rattle.basis.specs.Answer.{refusal, none as nothing-refused}
 use Rattle.tasks.specs.declared.Task.{Task}
 use Rattle.tasks.specs.List.{listOf, taskAt, noTask}
-use Rattle.records.specs.Grammar.{accepted, refused, numbers, paper, Reads}
-use Rattle.records.specs.Shapes.{fresh, spoilt, full, withDigit, withComma, withByte, complete, begun, taskOf, kept, closeGood, closeAs, closeLine, isPair, withHeld, plain, lineAfter, readAfter, atEnd, scan, nothing, parsedOf}
+use Rattle.records.specs.Grammar.{Read, accepted, refused, formAnswer, readOf, Reads}
+use Rattle.records.specs.Shapes.{withDigit, withComma, withByte, lineFrom, taskOf, kept, closeGood, closeAs, closeLine, readLines, nothing, parsedOf}
+use Rattle.records.specs.LineEnds.{isPair, push, linesOf}
 use Rattle.records.specs.Reading.{parsed-reads}
 
 abbrev bytes : String → List ℕ
@@ -21,6 +24,9 @@ times (suc n) l = l ++ times n l
 
 abbrev task : ℕ → ℕ → ℕ → Task
 task period runtime memory = record { period = period; runtime = runtime; memory = memory }
+
+read-so : (input : List ℕ) (a : Read) → readOf (parsedOf input) ≡ a → Reads input a
+read-so input a e = subst (Reads input) e (parsed-reads input)
 
 pub worked :
     Reads (bytes "2,1,0\r\n3,1,0\r\n6,1,0") (accepted (task 2 1 0 ∷ task 3 1 0 ∷ task 6 1 0 ∷ []))
@@ -43,26 +49,5 @@ pub worked :
     × Reads (bytes "\"2\",1,0") (refused 1)
     × Reads (bytes "2,1,0\r\nx\r\n3,1,0\r\ny") (refused 2)
     × Reads (times 299 (bytes "2,1,0\r\n") ++ bytes "x\r\n2,1,0") (refused 300)
-unfolding paper numbers accepted refused fresh spoilt full withDigit withComma withByte complete begun taskOf kept closeGood closeAs closeLine isPair withHeld plain lineAfter readAfter atEnd scan nothing parsedOf listOf taskAt noTask overwrite choose
-worked = (
-  parsed-reads _,
-  parsed-reads _,
-  parsed-reads _,
-  parsed-reads _,
-  parsed-reads _,
-  parsed-reads _,
-  parsed-reads _,
-  parsed-reads _,
-  parsed-reads _,
-  parsed-reads _,
-  parsed-reads _,
-  parsed-reads _,
-  parsed-reads _,
-  parsed-reads _,
-  parsed-reads _,
-  parsed-reads _,
-  parsed-reads _,
-  parsed-reads _,
-  parsed-reads _,
-  parsed-reads _,
-)
+unfolding readOf formAnswer accepted refused refusal nothing-refused withDigit withComma withByte lineFrom taskOf kept closeGood closeAs closeLine readLines nothing parsedOf isPair push linesOf listOf taskAt noTask overwrite choose
+worked = search read-so

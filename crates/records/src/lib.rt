@@ -1,10 +1,12 @@
 // The program's input, from bytes to a task list: three decimal fields a line, lines parted by the pair CRLF.
 ghost use mathlib.Core.Path.{_≡_};
 ghost use mathlib.Core.List.{[]};
-ghost use Prim.Native.Nat.{_≤_, _<_};
+ghost use Prim.Native.Nat.{_+_, _≤_, _<_};
+ghost use lib.ListN.{length, getD};
 ghost use Rattle.tasks.specs.List.{listOf};
-ghost use Rattle.records.specs.Grammar.{paper, Reads};
-ghost use Rattle.records.specs.Shapes.{fresh, spoilt, full, withDigit, withComma, withByte, complete, begun, kept, closeGood, closeLine, isPair, withHeld, plain, lineAfter, readAfter, atEnd};
+ghost use Rattle.records.specs.Grammar.{readOf, Reads};
+ghost use Rattle.records.specs.Shapes.{fresh, spoilt, withDigit, withComma, withByte, kept, closeGood, closeLine, atEnd};
+ghost use Rattle.records.specs.LineEnds.{isPair};
 use tasks::Task;
 use tasks::TaskList;
 
@@ -42,48 +44,45 @@ fn fresh_line() -> Line
     }
 }
 
+// Out of form for good: no comma closes its field, and no digit finds room in it.
 fn spoilt_line() -> Line
     ensures { λ r. ⌜ r ≡ spoilt ⌝ }
 {
     Line {
         closed: 3,
         digits: false,
-        value: 0,
+        value: 100000000,
         period: 0,
         runtime: 0,
     }
 }
 
-// No digit may follow: the field is "0", or has nine digits.
-fn is_full(seen: bool, value: u32) -> bool
-    ensures { λ r. ⌜ r ≡ full seen value ⌝ }
-{
-    if value == 0 { seen } else { 100000000 <= value }
-}
-
-fn with_digit(line: Line, digit: u32) -> Line
-    requires { ⌜ digit ≤ 9 ⌝ }
-    ensures { λ r. ⌜ r ≡ withDigit line digit ⌝ }
+// No digit may follow where the field is "0", or has nine digits.
+fn with_digit(line: Line, byte: u8) -> Line
+    requires { ⌜ 48 ≤ byte ⌝ }
+    requires { ⌜ byte ≤ 57 ⌝ }
+    ensures { λ r. ⌜ r ≡ withDigit line byte ⌝ }
 {
     let value = line.value;
-    if is_full(line.digits, value) {
+    if (100000000 <= value) | ((value == 0) & line.digits) {
         return spoilt_line();
     }
     Line {
         closed: line.closed,
         digits: true,
-        value: value * 10 + digit,
+        value: value * 10 + (byte - 48) as u32,
         period: line.period,
         runtime: line.runtime,
     }
 }
 
+// A comma closes the open field, if that has a digit and is not the third.
 fn with_comma(line: Line) -> Line
     ensures { λ r. ⌜ r ≡ withComma line ⌝ }
 {
     let closed = line.closed;
     let value = line.value;
-    if line.digits {
+    if line.digits & (closed < 2) {
         if closed == 0 {
             return Line {
                 closed: 1,
@@ -93,24 +92,15 @@ fn with_comma(line: Line) -> Line
                 runtime: 0,
             };
         }
-        if closed == 1 {
-            return Line {
-                closed: 2,
-                digits: false,
-                value: 0,
-                period: line.period,
-                runtime: value,
-            };
-        }
-        return spoilt_line();
+        return Line {
+            closed: 2,
+            digits: false,
+            value: 0,
+            period: line.period,
+            runtime: value,
+        };
     }
     spoilt_line()
-}
-
-fn wide(byte: u8) -> u32
-    ensures { λ r. ⌜ r ≡ byte ⌝ }
-{
-    byte as u32
 }
 
 // One byte more in a line: 44 is the comma, 48 to 57 are the digits, and nothing else is in form.
@@ -120,25 +110,10 @@ fn with_byte(line: Line, byte: u8) -> Line
     if byte == 44 {
         return with_comma(line);
     }
-    if byte < 48 {
-        return spoilt_line();
+    if (48 <= byte) & (byte <= 57) {
+        return with_digit(line, byte);
     }
-    if 57 < byte {
-        return spoilt_line();
-    }
-    with_digit(line, wide(byte - 48))
-}
-
-fn is_complete(line: Line) -> bool
-    ensures { λ r. ⌜ r ≡ complete line ⌝ }
-{
-    if line.closed == 2 { line.digits } else { false }
-}
-
-fn is_begun(line: Line) -> bool
-    ensures { λ r. ⌜ r ≡ begun line ⌝ }
-{
-    if line.closed == 0 { line.digits } else { true }
+    spoilt_line()
 }
 
 fn no_tasks() -> TaskList
@@ -178,7 +153,7 @@ fn close_good(list: TaskList, line: Line) -> Parsed
     requires { ⌜ list .count < 18446744073709551615 ⌝ }
     ensures { λ r. ⌜ r ≡ closeGood list line ⌝ }
 {
-    if is_complete(line) {
+    if (line.closed == 2) & line.digits {
         let task = Task {
             period: line.period,
             runtime: line.runtime,
@@ -210,63 +185,32 @@ fn close_line(read: Parsed, line: Line) -> Parsed
     }
 }
 
-// A CR is held back until the next byte tells whether the pair parts the lines.
-fn is_pair(held: bool, byte: u8) -> bool
-    ensures { λ r. ⌜ r ≡ isPair held byte ⌝ }
+// Byte 13 and byte 10 right behind it, CRLF, part the lines. Either alone is a byte of its line, and out of form.
+fn is_pair(input: &[u8], i: usize) -> bool
+    requires { ⌜ i < length (now input) ⌝ }
+    ensures { λ r. ⌜ r ≡ isPair (getD (now (input .entry)) i 0) (getD (now (input .entry)) (i + 1) 0) ⌝ }
 {
-    if byte == 10 { held } else { false }
-}
-
-// A CR that was held back and stands alone after all.
-fn with_held(line: Line, held: bool) -> Line
-    ensures { λ r. ⌜ r ≡ withHeld line held ⌝ }
-{
-    if held { spoilt_line() } else { line }
-}
-
-fn with_plain(line: Line, byte: u8) -> Line
-    ensures { λ r. ⌜ r ≡ plain line byte ⌝ }
-{
-    if byte == 13 {
-        line
+    let next = i + 1;
+    if next < input.len() {
+        (input[next] == 10) & (input[i] == 13)
     } else {
-        with_byte(line, byte)
+        false
     }
 }
 
-fn line_after(line: Line, held: bool, byte: u8) -> Line
-    ensures { λ r. ⌜ r ≡ lineAfter line held byte ⌝ }
-{
-    if is_pair(held, byte) {
-        return fresh_line();
-    }
-    with_plain(with_held(line, held), byte)
-}
-
-fn read_after(read: Parsed, line: Line, held: bool, byte: u8) -> Parsed
+// What follows the last CRLF is one line more, unless it is nothing.
+fn at_end(read: Parsed, line: Line) -> Parsed
     requires { ⌜ read .list .count < 18446744073709551615 ⌝ }
-    ensures { λ r. ⌜ r ≡ readAfter read line held byte ⌝ }
+    ensures { λ r. ⌜ r ≡ atEnd read line ⌝ }
 {
-    if is_pair(held, byte) {
+    if line.digits | (line.closed != 0) {
         return close_line(read, line);
     }
     read
 }
 
-// What follows the last CRLF is one line more, unless it is nothing.
-fn at_end(read: Parsed, line: Line, held: bool) -> Parsed
-    requires { ⌜ read .list .count < 18446744073709551615 ⌝ }
-    ensures { λ r. ⌜ r ≡ atEnd read line held ⌝ }
-{
-    let last = with_held(line, held);
-    if is_begun(last) {
-        return close_line(read, last);
-    }
-    read
-}
-
 pub fn read_list(input: &[u8]) -> Parsed
-    ensures { λ r. ⌜ Reads (now (input .entry)) (paper r) ⌝ }
+    ensures { λ r. ⌜ Reads (now (input .entry)) (readOf r) ⌝ }
 {
     let none = no_tasks();
     let mut read = Parsed {
@@ -274,16 +218,18 @@ pub fn read_list(input: &[u8]) -> Parsed
         list: none,
     };
     let mut line = fresh_line();
-    let mut held = false;
     let mut i = 0;
     while i < input.len() {
-        let byte = input[i];
-        let next_read = read_after(read, line, held, byte);
-        let next_line = line_after(line, held, byte);
-        read = next_read;
-        line = next_line;
-        held = byte == 13;
+        if is_pair(input, i) {
+            let next = close_line(read, line);
+            read = next;
+            line = fresh_line();
+            i += 2;
+            continue;
+        }
+        let longer = with_byte(line, input[i]);
+        line = longer;
         i += 1;
     }
-    at_end(read, line, held)
+    at_end(read, line)
 }

@@ -1,11 +1,13 @@
 -- What a step comes to at each way out, as laws over plain values.
 use mathlib.Core.Path.{_≡_, refl, sym, ap, ap₂, _∙_}
 use mathlib.Core.List.{List}
-use mathlib.Core.Bool.{Bool, false}
+use mathlib.Core.Bool.{Bool, true, false}
 use Prim.Native.Nat.{ℕ, zero, suc, _+_, _-_, _≤_, _<_}
 use native.Mathlib.Omega.{arith}
 use lib.ListN.{length}
 use Rattle.basis.specs.Bytes.{at}
+use Rattle.basis.specs.Answer.{Answer, else-found, else-kept, refusal, none, _orElse_}
+use Rattle.basis.specs.Choose.{choose}
 use Rattle.run.specs.declared.ask.Asked.{Asked}
 use Rattle.run.specs.declared.Mode.the-variants.{Table}
 use Rattle.run.specs.declared.State.{State}
@@ -13,9 +15,9 @@ use Rattle.run.specs.declared.Closed.{Closed}
 use Rattle.run.specs.declared.Closed.the-variants.{Accepted, Refused}
 use Rattle.run.specs.State.{periodOf, jobOf, place, placeIn}
 use Rattle.run.specs.Places.{place-by-numbers, place-within}
-use Rattle.run.specs.Who.{whoRefusal, running}
-use Rattle.run.specs.Step.{of12, of13, withResult, stepRefusal, stateAfter, logAfter, answerOf, nextState, nextLog, stateOf, SteppedIn, Stepped}
-use Rattle.run.specs.Accepted.{WhoAccepted, StepAccepted, next-asked, next-spared, step-accepted, state-is, accepted-none, refused-some, heldAfter, in-place, who-runs, running-to}
+use Rattle.run.specs.Who.{whoFound, running}
+use Rattle.run.specs.Step.{of12, of13, of14, withResult, stepFound, stepRefusal, stateAfter, logAfter, answerOf, nextState, nextLog, stateOf, SteppedIn, Stepped}
+use Rattle.run.specs.Accepted.{WhoAccepted, StepAccepted, step-accepted, state-is, accepted-none, refused-some, heldAfter, in-place, who-runs, running-to}
 use Rattle.run.specs.LogAfter.{put-length, result-length}
 use Rattle.run.specs.Shapes.{Answers, twelveOn, inAll, usedOne, resultByte, resultPut, endedIf, served, renewed, lateUpTo, goneOn}
 use Rattle.run.proofs.Served.{some-byte, result-put, late-served, state-served}
@@ -30,6 +32,14 @@ log-is : (n : ℕ) (log after : List ℕ) → (n ≡ 0 → ⊥) → log ≡ next
 unfolding nextLog
 log-is zero log after nz = absurd (nz refl)
 log-is (suc n) log after nz = refl
+
+-- Refusals 12 to 14 in a row, by number.
+in-a-row : (a b c : Bool) → choose a 12 (choose b (choose c 14 0) 13) ≡ (choose a (refusal 12 0) none orElse choose b none (refusal 13 0) orElse choose c (refusal 14 0) none) .number
+unfolding choose _orElse_ refusal none
+in-a-row true b c = refl
+in-a-row false true true = refl
+in-a-row false true false = refl
+in-a-row false false c = refl
 
 -- What the loop over the tasks takes: their jobs have places in the log.
 pub record Closes (s : State) (log : List ℕ) : Type 0 where
@@ -71,14 +81,14 @@ module _ (s : State) (table : List ℕ) (clock report : ℕ) (log : List ℕ) (a
 
   -- Refusals 9 to 11 come first,
   pub step-not-asked : (asked .number ≡ 0 → ⊥) → SteppedIn s table clock report log log (s .used) (s .ended) (Refused (asked .number))
-  unfolding stepRefusal
-  step-not-asked nz = refused-step (asked .number) (A .number-is ∙ sym (next-spared (whoRefusal s table) _ (λ z. nz (A .number-is ∙ z)))) nz
+  unfolding stepFound
+  step-not-asked nz = refused-step (asked .number) (A .number-is ∙ sym (ap (λ (a : Answer). a .number) (else-kept (whoFound s table) _ (λ z. nz (A .number-is ∙ z))))) nz
 
   -- then those from 12 on,
   module _ (z : asked .number ≡ 0) (m : ℕ) (em : m ≡ twelveOn (asked .jobs) (length log) (s .clock) clock (asked .ran) report) where
     found-is : m ≡ stepRefusal s table clock report log
-    unfolding stepRefusal twelveOn of12 of13
-    found-is = em ∙ rw (A .jobs-are z, A .ran-is z) (sym (next-asked (whoRefusal s table) _ (sym (A .number-is) ∙ z)))
+    unfolding stepFound twelveOn of12 of13 of14
+    found-is = em ∙ rw (A .jobs-are z, A .ran-is z) (in-a-row _ _ _) ∙ sym (ap (λ (a : Answer). a .number) (else-found (whoFound s table) _ (sym (A .number-is) ∙ z)))
 
     pub step-refused : (m ≡ 0 → ⊥) → SteppedIn s table clock report log log (s .used) (s .ended) (Refused m)
     step-refused nz = refused-step m found-is nz

@@ -5,20 +5,24 @@ use mathlib.Core.Bool.{Bool, true, false, _&&_, _||_}
 use mathlib.Core.Logic.{⊎-elim}
 use Prim.Native.Nat.{ℕ, zero, suc, _-_, _≤_, _<_}
 use native.Mathlib.Omega.{arith}
-use lib.Dec.{ltb}
-use lib.ListN.{length}
-use borrow.Author.Tests.{eq-eqb, ne-eqb}
+use lib.Dec.{ltb, eqb}
+use lib.ListN.{length, getD}
+use borrow.Author.Tests.{eq-eqb, ne-eqb, lt-ltb, le-ltb}
 use Rattle.basis.specs.Bytes.{at}
 use Rattle.basis.specs.Choose.{choose, choose-yes, choose-no, bool-cases}
+use Rattle.basis.specs.Answer.{refusal, none, _orElse_, none-number, Answer}
+use Rattle.readings.specs.declared.Entry.the-variants.{Idle, Task, NoEntry}
+use Rattle.readings.specs.Reading.{entryOf}
+use Rattle.readings.specs.Laws.{idle-read, task-read, no-entry-read}
 use Rattle.run.specs.declared.ask.Asked.{Asked}
 use Rattle.run.specs.declared.Mode.{Mode}
 use Rattle.run.specs.declared.Mode.the-variants.{Table, Filling}
 use Rattle.run.specs.declared.State.{State}
-use Rattle.run.specs.declared.Runner.the-variants.{Idle, Task, Refused}
+use Rattle.run.specs.declared.Runner.the-variants.{Idle as NobodyRuns, Task as Runs, Refused}
 use Rattle.run.specs.State.{periodOf, runtimeOf, jobOf, sound, offset, jobCount}
 use Rattle.run.specs.Sound.{SoundState, sound-tells}
 use Rattle.run.specs.Places.{job-within, job-in-cycle}
-use Rattle.run.specs.Who.{unlessEnded, firstOpen, runningBy, running, orNext, of9, of10, of11By, of11, whoRefusal, ofEntry, answered, whoOf}
+use Rattle.run.specs.Who.{unlessEnded, firstOpen, runningBy, running, of9, of10, of11By, of11, whoFound, whoRefusal, ofEntry, answered, whoOf}
 use Rattle.run.specs.Shapes.{jobsOf, jobsIfSound, openFirst, openEntry, tableAsk, Answers}
 use Rattle.run.specs.Step.{stateOf}
 
@@ -55,29 +59,61 @@ module _ (s : State) where
     pub jobs-counted : (jobs ≡ 0 → ⊥) → jobs ≡ jobCount s
     jobs-counted nz = e ∙ jobs-one-pass ∙ choose-yes (sound s) (jobCount s) 0 (some-jobs nz)
 
+-- ---- the entry by its reading
+pub reads-one : (byte count i : ℕ) → count ≤ 16 → entryOf byte count ≡ Task i → (1 ≤ i) × (i ≤ 16)
+reads-one byte count i few e = let h = task-read byte count i e in (omega (arith, h), omega (arith, h))
+
+-- where the table reaches the cycle's end
+module _ (ended : List Bool) (count cycle position jobs : ℕ) (table : List ℕ) (few : count ≤ 16) (long : cycle ≤ length table) where
+  abbrev ask : Asked
+  ask = tableAsk ended count cycle position jobs table
+
+  pub reads-idle-as : entryOf (at table position) count ≡ Idle → record { number = 0; jobs = jobs; ran = 0 } ≡ ask
+  unfolding tableAsk openEntry choose
+  reads-idle-as e = let z = idle-read (at table position) count e in rw (le-ltb _ _ long, z, le-ltb count 0 (omega arith))
+
+  pub reads-task-as : (i ran : ℕ) → entryOf (at table position) count ≡ Task i → ran ≡ choose (getD ended (i - 1) false) 0 i → record { number = 0; jobs = jobs; ran = ran } ≡ ask
+  unfolding tableAsk openEntry choose
+  reads-task-as i ran e er =
+      let h = task-read (at table position) count i e in
+      rw (le-ltb _ _ long, h .0, le-ltb count i (omega (arith, h)), ne-eqb i 0 (λ z. omega (arith, h)), er)
+
+  pub reads-none-as : (x : ℕ) → entryOf (at table position) count ≡ NoEntry x → record { number = 11; jobs = 0; ran = 0 } ≡ ask
+  unfolding tableAsk choose
+  reads-none-as x e = rw (le-ltb _ _ long, lt-ltb _ _ (no-entry-read (at table position) count x few e))
+
 -- ---- the answers
 refused-is : (n e : ℕ) → (n ≡ 0 → ⊥) → Refused n ≡ answered n e
 unfolding answered
 refused-is zero e nz = absurd (nz refl)
 refused-is (suc n) e nz = refl
 
-task-is : (n : ℕ) → (n ≡ 0 → ⊥) → Task n ≡ ofEntry n
+task-is : (n : ℕ) → (n ≡ 0 → ⊥) → Runs n ≡ ofEntry n
 unfolding ofEntry
 task-is zero nz = absurd (nz refl)
 task-is (suc n) nz = refl
+
+-- Refusals 9 to 11 in a row, by number.
+in-a-row : (a b : Bool) (c : Answer) → (choose a none (refusal 9 0) orElse choose b (refusal 10 0) none orElse c) .number ≡ choose a (choose b 10 (c .number)) 9
+unfolding choose _orElse_ refusal none
+in-a-row true true c = refl
+in-a-row true false c = refl
+in-a-row false b c = refl
+
+who-number : (s : State) (table : List ℕ) → whoRefusal s table ≡ choose (sound s) (choose (eqb (s .position) (s .cycle)) 10 (of11By (s .mode) s table .number)) 9
+unfolding whoFound of9 of10 of11
+who-number s table = in-a-row _ _ _
 
 refused-answers : (s : State) (table : List ℕ) (n : ℕ) → suc n ≡ whoRefusal s table → Answers s table (record { number = suc n; jobs = 0; ran = 0 })
 refused-answers s table n e = record { number-is = e; jobs-are = λ z. absurd (omega arith); ran-is = λ z. absurd (omega arith) }
 
 module _ (s : State) (table : List ℕ) (jobs : ℕ) (e : jobs ≡ jobsIfSound (s .periods) (s .runtimes) (s .used) (s .ended) (s .count) (s .cycle) (s .position)) where
   pub asked-unsound : jobs ≡ 0 → Answers s table (record { number = 9; jobs = 0; ran = 0 })
-  unfolding whoRefusal of9 orNext choose
-  asked-unsound z = refused-answers s table 8 (rw (no-jobs s jobs e z))
+  asked-unsound z = refused-answers s table 8 (sym (who-number s table ∙ choose-no _ _ _ (no-jobs s jobs e z)))
 
   module _ (nz : jobs ≡ 0 → ⊥) where
     pub asked-over : s .position ≡ s .cycle → Answers s table (record { number = 10; jobs = 0; ran = 0 })
-    unfolding whoRefusal of9 of10 orNext choose
-    asked-over q = refused-answers s table 9 (rw (some-jobs s jobs e nz, eq-eqb _ _ q))
+    asked-over q = refused-answers s table 9 (sym (who-number s table ∙ choose-yes _ _ _ (some-jobs s jobs e nz) ∙ choose-yes _ _ _ (eq-eqb _ _ q)))
 
     is-sound : SoundState s
     is-sound = sound-tells s .0 (some-jobs s jobs e nz)
@@ -86,18 +122,21 @@ module _ (s : State) (table : List ℕ) (jobs : ℕ) (e : jobs ≡ jobsIfSound (
       before-end : s .position < s .cycle
       before-end = omega (arith, is-sound .position-to)
 
+      number-11 : whoRefusal s table ≡ of11By (s .mode) s table .number
+      number-11 = who-number s table ∙ choose-yes _ _ _ (some-jobs s jobs e nz) ∙ choose-no _ _ _ (ne-eqb _ _ ne)
+
       -- who runs, where nothing is refused
-      runs : (m : Mode) → s .mode ≡ m → (ran : ℕ) → of11By m s table ≡ 0 → ran ≡ runningBy m s table → Answers s table (record { number = 0; jobs = jobs; ran = ran })
-      unfolding whoRefusal of9 of10 of11 orNext choose running
-      runs m em ran none er = record {
-        number-is = rw (some-jobs s jobs e nz, ne-eqb _ _ ne) (sym (ap (λ (x : Mode). of11By x s table) em ∙ none));
+      runs : (m : Mode) → s .mode ≡ m → (ran : ℕ) → of11By m s table .number ≡ 0 → ran ≡ runningBy m s table → Answers s table (record { number = 0; jobs = jobs; ran = ran })
+      unfolding running
+      runs m em ran passes er = record {
+        number-is = sym (number-11 ∙ ap (λ (x : Mode). of11By x s table .number) em ∙ passes);
         jobs-are = λ _. jobs-counted s jobs e nz;
         ran-is = λ _. er ∙ sym (ap (λ (x : Mode). runningBy x s table) em);
       }
 
       pub asked-filling : (ran : ℕ) → s .mode ≡ Filling → ran ≡ openFirst (s .periods) (s .ended) (s .count) → Answers s table (record { number = 0; jobs = jobs; ran = ran })
       unfolding of11By runningBy firstOpen openFirst periodOf jobOf
-      asked-filling ran em er = runs Filling em ran refl er
+      asked-filling ran em er = runs Filling em ran none-number er
 
       open-entry : (x : ℕ) → openEntry (s .ended) x ≡ unlessEnded s x
       unfolding openEntry unlessEnded choose jobOf
@@ -109,12 +148,12 @@ module _ (s : State) (table : List ℕ) (jobs : ℕ) (e : jobs ≡ jobsIfSound (
         unreadable = ltb (length table) (s .cycle) || ltb (s .count) (at table (s .position))
 
         asked-unreadable : unreadable ≡ true → Answers s table (record { number = 11; jobs = 0; ran = 0 })
-        unfolding whoRefusal of9 of10 of11 of11By orNext choose
-        asked-unreadable t = refused-answers s table 10 (rw (some-jobs s jobs e nz, ne-eqb _ _ ne, em, t))
+        unfolding of11By refusal choose
+        asked-unreadable t = refused-answers s table 10 (sym (number-11 ∙ rw (em, t)))
 
         asked-entry : unreadable ≡ false → Answers s table (record { number = 0; jobs = jobs; ran = openEntry (s .ended) (at table (s .position)) })
         unfolding of11By runningBy choose
-        asked-entry f = runs Table em _ (rw f) (open-entry (at table (s .position)))
+        asked-entry f = runs Table em _ (rw (f, none-number)) (open-entry (at table (s .position)))
 
         pub asked-by-table : (r : Asked) → r ≡ tableAsk (s .ended) (s .count) (s .cycle) (s .position) jobs table → Answers s table r
         unfolding tableAsk
@@ -136,15 +175,15 @@ module _ (periods runtimes used : List ℕ) (ended : List Bool) (count cycle pos
   in-cycle ne = before-end parts [] jobs e nz ne
 
 -- ---- who
-module _ (s : State) (table : List ℕ) (r : Asked) (A : Answers s table r) where
+module _ (s : State) (table : List ℕ) (r : Asked) (told : Answers s table r) where
   pub who-refused : (r .number ≡ 0 → ⊥) → Refused (r .number) ≡ whoOf s table
   unfolding whoOf
-  who-refused nz = rw (← A .number-is) (refused-is (r .number) (running s table) nz)
+  who-refused nz = rw (← told .number-is) (refused-is (r .number) (running s table) nz)
 
-  pub who-idle : r .number ≡ 0 → r .ran ≡ 0 → Idle ≡ whoOf s table
+  pub who-idle : r .number ≡ 0 → r .ran ≡ 0 → NobodyRuns ≡ whoOf s table
   unfolding whoOf answered ofEntry
-  who-idle z i = rw (← A .number-is, z, ← A .ran-is z, i)
+  who-idle z i = rw (← told .number-is, z, ← told .ran-is z, i)
 
-  pub who-task : r .number ≡ 0 → (r .ran ≡ 0 → ⊥) → Task (r .ran) ≡ whoOf s table
+  pub who-task : r .number ≡ 0 → (r .ran ≡ 0 → ⊥) → Runs (r .ran) ≡ whoOf s table
   unfolding whoOf answered
-  who-task z nz = rw (← A .number-is, z, ← A .ran-is z) (task-is (r .ran) nz)
+  who-task z nz = rw (← told .number-is, z, ← told .ran-is z) (task-is (r .ran) nz)

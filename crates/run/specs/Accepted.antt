@@ -1,7 +1,7 @@
 -- When asking who runs and a step are accepted, said as facts; and what is known of the task that runs.
 use mathlib.Core.Path.{_≡_, refl, sym, ap, ap₂, _∙_}
 use mathlib.Core.List.{List}
-use mathlib.Core.Bool.{Bool, true, false, true≢false}
+use mathlib.Core.Bool.{Bool, true, false}
 use mathlib.Core.Logic.{⊎-elim, inl, inr, _↔_}
 use Prim.Native.Nat.{ℕ, zero, suc, _+_, _≤_, _<_}
 use native.Mathlib.Omega.{arith}
@@ -10,6 +10,7 @@ use lib.Dec.{eqb}
 use lib.ListN.{length, getD}
 use borrow.Author.Tests.{ltb-false, le-ltb, eqb-true, eqb-false, eq-eqb, ne-eqb}
 use Rattle.basis.specs.Choose.{choose, choose-yes, choose-no, bool-cases, both-false, either-false}
+use Rattle.basis.specs.Answer.{Answer, refusal, none, _orElse_, passed-if, passed-unless, none-number, else-none, none-else}
 use Rattle.plan.specs.Plan.{IsFirst}
 use Rattle.plan.specs.Rank.{first-law}
 use Rattle.run.specs.declared.Mode.{Mode}
@@ -19,8 +20,8 @@ use Rattle.run.specs.declared.Closed.{Closed}
 use Rattle.run.specs.declared.Closed.the-variants.{Accepted, Refused}
 use Rattle.run.specs.declared.Next.{Next}
 use Rattle.run.specs.State.{keyOf, currentOf, jobOf, sound, jobCount}
-use Rattle.run.specs.Who.{unlessEnded, firstOpen, runningBy, running, orNext, of9, of10, of11By, of11, whoRefusal}
-use Rattle.run.specs.Step.{of12, nextClock, of13, of14, stepRefusal, stateAfter, logAfter, answerOf, nextState, nextLog, stateOf, SteppedIn, Stepped}
+use Rattle.run.specs.Who.{unlessEnded, firstOpen, runningBy, running, of9, of10, of11By, of11, whoFound, whoRefusal}
+use Rattle.run.specs.Step.{of12, nextClock, of13, of14, stepFound, stepRefusal, stateAfter, logAfter, answerOf, nextState, nextLog, stateOf, SteppedIn, Stepped}
 use Rattle.run.specs.Sound.{SoundState, sound-tells}
 
 -- ---- the facts
@@ -41,92 +42,73 @@ pub record StepAccepted (s : State) (table : List ℕ) (clock report : ℕ) (log
   pub report-to : report ≤ 1
   pub finished-by : report ≡ 1 → 0 < running s table
 
--- ---- numbers of refusal
-pub next-asked : (m n : ℕ) → m ≡ 0 → orNext m n ≡ n
-unfolding orNext
-next-asked m n z = rw z
+-- ---- nothing found, number by number
+neither : (a b : Answer) → ((a orElse b) .number ≡ 0) ↔ ((a .number ≡ 0) × (b .number ≡ 0))
+neither a b = (else-none a b, λ h. none-else a b (h .0) (h .1))
 
-pub next-spared : (m n : ℕ) → (m ≡ 0 → ⊥) → orNext m n ≡ m
-unfolding orNext
-next-spared zero n nz = absurd (nz refl)
-next-spared (suc m) n nz = refl
-
-pub next-none : (m n : ℕ) → (orNext m n ≡ 0) ↔ ((m ≡ 0) × (n ≡ 0))
-unfolding orNext
-next-none zero n = (λ e. (refl, e), λ h. h .1)
-next-none (suc m) n = (λ e. absurd (omega arith), λ h. absurd (omega (arith, h .0)))
-
--- a refusal that is given if a test holds, and one that is given unless it holds
-given-if : (b : Bool) (n : ℕ) → (choose b (suc n) 0 ≡ 0) ↔ (b ≡ false)
-unfolding choose
-given-if true n = (λ e. absurd (omega arith), λ h. absurd (true≢false h))
-given-if false n = (λ _. refl, λ _. refl)
-
-given-unless : (b : Bool) (n : ℕ) → (choose b 0 (suc n) ≡ 0) ↔ (b ≡ true)
-unfolding choose
-given-unless true n = (λ _. refl, λ _. refl)
-given-unless false n = (λ e. absurd (omega arith), λ h. absurd (true≢false (sym h)))
+passed-alone : (b : Bool) (n : ℕ) → (choose b (refusal (suc n) 0) none .number ≡ 0) ↔ (b ≡ false)
+passed-alone b n = (λ z. passed-if b n 0 none .0 z .0, λ h. passed-if b n 0 none .1 (h, none-number))
 
 -- ---- 9 to 11
-of-9-none : (s : State) → (of9 s ≡ 0) ↔ SoundState s
+of-9-none : (s : State) → (of9 s .number ≡ 0) ↔ SoundState s
 unfolding of9
-of-9-none s = (λ e. sound-tells s .0 (given-unless (sound s) 8 .0 e), λ S. given-unless (sound s) 8 .1 (sound-tells s .1 S))
+of-9-none s = (λ e. sound-tells s .0 (passed-unless (sound s) 8 0 .0 e), λ S. passed-unless (sound s) 8 0 .1 (sound-tells s .1 S))
 
-of-10-none : (s : State) → (of10 s ≡ 0) ↔ (s .position ≡ s .cycle → ⊥)
+of-10-none : (s : State) → (of10 s .number ≡ 0) ↔ (s .position ≡ s .cycle → ⊥)
 unfolding of10
 of-10-none s = (
-  λ e. eqb-false (s .position) (s .cycle) (given-if (eqb (s .position) (s .cycle)) 9 .0 e),
-  λ h. given-if (eqb (s .position) (s .cycle)) 9 .1 (ne-eqb (s .position) (s .cycle) h),
+  λ e. eqb-false (s .position) (s .cycle) (passed-alone (eqb (s .position) (s .cycle)) 9 .0 e),
+  λ h. passed-alone (eqb (s .position) (s .cycle)) 9 .1 (ne-eqb (s .position) (s .cycle) h),
 )
 
-of-11-none : (m : Mode) (s : State) (table : List ℕ) → (of11By m s table ≡ 0) ↔ (m ≡ Table → Readable s table)
+of-11-none : (m : Mode) (s : State) (table : List ℕ) → (of11By m s table .number ≡ 0) ↔ (m ≡ Table → Readable s table)
 unfolding of11By
 of-11-none Table s table = (
   λ e _.
-      let h = either-false _ _ .0 (given-if _ 10 .0 e) in
+      let h = either-false _ _ .0 (passed-alone _ 10 .0 e) in
       record { length-from = ltb-false (length table) (s .cycle) (h .0); entry-to = ltb-false (s .count) (getD table (s .position) 0) (h .1) },
   λ R.
-      given-if _ 10 .1 (either-false _ _ .1 (le-ltb (length table) (s .cycle) (R refl .length-from), le-ltb (s .count) (getD table (s .position) 0) (R refl .entry-to))),
+      passed-alone _ 10 .1 (either-false _ _ .1 (le-ltb (length table) (s .cycle) (R refl .length-from), le-ltb (s .count) (getD table (s .position) 0) (R refl .entry-to))),
 )
-of-11-none Filling s table = (λ _ e. let z : _≡_ {A = ℕ} 0 1 = cc in absurd (omega arith), λ _. refl)
+of-11-none Filling s table = (λ _ e. let z : _≡_ {A = ℕ} 0 1 = cc in absurd (omega arith), λ _. none-number)
 
 pub who-accepted : (s : State) (table : List ℕ) → (whoRefusal s table ≡ 0) ↔ WhoAccepted s table
-unfolding whoRefusal of11
+unfolding whoFound of11
 who-accepted s table = (
   λ e.
-      let a = next-none _ _ .0 e in
-      let b = next-none _ _ .0 (a .1) in
+      let a = neither _ _ .0 e in
+      let b = neither _ _ .0 (a .1) in
       let S = of-9-none s .0 (a .0) in
       let ne = of-10-none s .0 (b .0) in
       record { is-sound = S; not-over = omega (arith, S .position-to); readable = of-11-none (s .mode) s table .0 (b .1) },
-  λ A. next-none _ _ .1 (of-9-none s .1 (A .is-sound), next-none _ _ .1 (of-10-none s .1 (λ e. omega (arith, A .not-over)), of-11-none (s .mode) s table .1 (A .readable))),
+  λ went. neither _ _ .1 (of-9-none s .1 (went .is-sound), neither _ _ .1 (of-10-none s .1 (λ e. omega (arith, went .not-over)), of-11-none (s .mode) s table .1 (went .readable))),
 )
 
 -- ---- 12 to 14
-of-12-none : (s : State) (log : List ℕ) → (of12 s log ≡ 0) ↔ (jobCount s ≤ length log)
+of-12-none : (s : State) (log : List ℕ) → (of12 s log .number ≡ 0) ↔ (jobCount s ≤ length log)
 unfolding of12
-of-12-none s log = (λ e. ltb-false (length log) (jobCount s) (given-if _ 11 .0 e), λ h. given-if _ 11 .1 (le-ltb (length log) (jobCount s) h))
+of-12-none s log = (λ e. ltb-false (length log) (jobCount s) (passed-alone _ 11 .0 e), λ h. passed-alone _ 11 .1 (le-ltb (length log) (jobCount s) h))
 
-of-13-none : (s : State) (clock : ℕ) → (of13 s clock ≡ 0) ↔ (clock ≡ nextClock (s .clock))
+of-13-none : (s : State) (clock : ℕ) → (of13 s clock .number ≡ 0) ↔ (clock ≡ nextClock (s .clock))
 unfolding of13
-of-13-none s clock = (λ e. eqb-true clock (nextClock (s .clock)) (given-unless _ 12 .0 e), λ h. given-unless _ 12 .1 (eq-eqb clock (nextClock (s .clock)) h))
+of-13-none s clock = (λ e. eqb-true clock (nextClock (s .clock)) (passed-unless _ 12 0 .0 e), λ h. passed-unless _ 12 0 .1 (eq-eqb clock (nextClock (s .clock)) h))
 
-of-14-none : (ran report : ℕ) → (of14 ran report ≡ 0) ↔ ((report ≤ 1) × (report ≡ 1 → 0 < ran))
+of-14-none : (ran report : ℕ) → (of14 ran report .number ≡ 0) ↔ ((report ≤ 1) × (report ≡ 1 → 0 < ran))
 unfolding of14
 of-14-none ran report = (
   λ e.
-      let h = either-false _ _ .0 (given-if _ 13 .0 e) in
+      let h = either-false _ _ .0 (passed-alone _ 13 .0 e) in
       (ltb-false 1 report (h .0), λ one. pos-of-ne-zero (eqb-false ran 0 (both-false _ _ .0 (h .1) (eq-eqb report 1 one)))),
-  λ h. given-if _ 13 .1 (either-false _ _ .1 (le-ltb 1 report (h .0), both-false (eqb report 1) (eqb ran 0) .1 (λ (t : eqb report 1 ≡ true). ne-eqb ran 0 (λ (z : ran ≡ 0). omega (arith, h .1 (eqb-true report 1 t)))))),
+  λ h. passed-alone _ 13 .1 (either-false _ _ .1 (le-ltb 1 report (h .0), both-false (eqb report 1) (eqb ran 0) .1 (λ (t : eqb report 1 ≡ true). ne-eqb ran 0 (λ (z : ran ≡ 0). omega (arith, h .1 (eqb-true report 1 t)))))),
 )
 
 pub step-accepted : (s : State) (table : List ℕ) (clock report : ℕ) (log : List ℕ) → (stepRefusal s table clock report log ≡ 0) ↔ StepAccepted s table clock report log
-unfolding stepRefusal
+unfolding stepFound
 step-accepted s table clock report log = (
   λ e.
-      let a = next-none _ _ .0 e in
-      let b = next-none _ _ .0 (a .1) in
-      let c = next-none _ _ .0 (b .1) in
+      let a = neither _ _ .0 e in
+      let b = neither _ _ .0 (a .1) in
+      let c = neither _ _ .0 (b .1) in
       let r = of-14-none (running s table) report .0 (c .1) in
       record {
         asked = who-accepted s table .0 (a .0);
@@ -135,12 +117,12 @@ step-accepted s table clock report log = (
         report-to = r .0;
         finished-by = r .1;
       },
-  λ A.
-      next-none _ _ .1 (
-        who-accepted s table .1 (A .asked),
-        next-none _ _ .1 (
-          of-12-none s log .1 (A .log-from),
-          next-none _ _ .1 (of-13-none s clock .1 (A .clock-next), of-14-none (running s table) report .1 (A .report-to, A .finished-by)),
+  λ went.
+      neither _ _ .1 (
+        who-accepted s table .1 (went .asked),
+        neither _ _ .1 (
+          of-12-none s log .1 (went .log-from),
+          neither _ _ .1 (of-13-none s clock .1 (went .clock-next), of-14-none (running s table) report .1 (went .report-to, went .finished-by)),
         ),
       ),
 )
@@ -151,8 +133,8 @@ module _ (s : State) (table : List ℕ) where
   pub step-answers : (clock report : ℕ) (log log′ : List ℕ) (r : Next) → StepAccepted s table clock report log → Stepped s table clock report log log′ r
       → (r .answer ≡ Accepted) × (r .state ≡ stateAfter s (running s table) clock report) × (log′ ≡ logAfter s (running s table) report log)
   unfolding answerOf nextState nextLog
-  step-answers clock report log log′ r A S =
-      let z = step-accepted s table clock report log .1 A in
+  step-answers clock report log log′ r went S =
+      let z = step-accepted s table clock report log .1 went in
       (rw z at (S .answer), rw z at (S .state), rw z at (S .bytes))
 
 -- ---- in place
@@ -233,10 +215,10 @@ unfolding runningBy firstOpen
 mode-runs Table s table R i q = entry-runs s (getD table (s .position) 0) i (R refl .entry-to) q
 mode-runs Filling s table R i q = first-runs s _ i (first-law (λ i. keyOf s i (currentOf s i)) (λ i. choose (jobOf s i .ended) 0 1) (s .count)) q
 
-module _ (s : State) (table : List ℕ) (A : WhoAccepted s table) where
+module _ (s : State) (table : List ℕ) (went : WhoAccepted s table) where
   pub who-runs : (i : ℕ) → running s table ≡ suc i → RunsIn s i
   unfolding running
-  who-runs i q = mode-runs (s .mode) s table (A .readable) i q
+  who-runs i q = mode-runs (s .mode) s table (went .readable) i q
 
   pub running-to : running s table ≤ s .count
   running-to = go (running s table) refl

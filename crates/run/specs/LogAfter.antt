@@ -122,7 +122,7 @@ unfolding choose
 never-late true old = refl
 never-late false old = refl
 
-module _ (s : State) (table : List ℕ) (clock report : ℕ) (log : List ℕ) (A : StepAccepted s table clock report log) where
+module _ (s : State) (table : List ℕ) (clock report : ℕ) (log : List ℕ) (went : StepAccepted s table clock report log) where
   abbrev ran : ℕ
   ran = running s table
 
@@ -134,14 +134,14 @@ module _ (s : State) (table : List ℕ) (clock report : ℕ) (log : List ℕ) (A
   log-length = late-length s ran report (withResult s ran report log) (s .count) ∙ result-length s report log ran
 
   inside : (i : ℕ) → i < s .count → place s i < length log
-  inside i l = omega (arith, place-within s (A .asked .is-sound) (A .asked .not-over) i l, A .log-from)
+  inside i l = omega (arith, place-within s (went .asked .is-sound) (went .asked .not-over) i l, went .log-from)
 
   late-at : (i : ℕ) → i < s .count → getD after (place s i) 0 ≡ choose (isLate s ran report i) 3 (getD (withResult s ran report log) (place s i) 0)
   unfolding logAfter
   late-at i l =
       late-here s ran report (withResult s ran report log) (s .count)
       (λ j lj. omega (arith, inside j lj, result-length s report log ran))
-      (places-apart s (A .asked .is-sound) (A .asked .not-over))
+      (places-apart s (went .asked .is-sound) (went .asked .not-over))
       (s .count) i (omega arith) l
 
   -- the byte of the task that ran, and that of any other
@@ -150,13 +150,13 @@ module _ (s : State) (table : List ℕ) (clock report : ℕ) (log : List ℕ) (A
   byte-here i l e =
       late-at i l
       ∙ ap (λ (x : ℕ). choose (isLate s ran report i) 3 x) (ap (λ (x : ℕ). getD (withResult s x report log) (place s i) 0) e ∙ result-here s report log i (inside i l))
-      ∙ rw (slice-here s ran report i e, eq-eqb ran (suc i) e, who-runs s table (A .asked) i e .job-open) (ended-here (eqb report 1) (eqb (jobOf s i .used + 1) (runtimeOf s i (currentOf s i))) (deadlineNext s i) (getD log (place s i) 0))
+      ∙ rw (slice-here s ran report i e, eq-eqb ran (suc i) e, who-runs s table (went .asked) i e .job-open) (ended-here (eqb report 1) (eqb (jobOf s i .used + 1) (runtimeOf s i (currentOf s i))) (deadlineNext s i) (getD log (place s i) 0))
 
   byte-elsewhere : (i : ℕ) → i < s .count → (ran ≡ suc i → ⊥) → getD after (place s i) 0 ≡ byteAfter s ran report i (getD log (place s i) 0)
   unfolding byteAfter isLate choose
   byte-elsewhere i l ne =
       late-at i l
-      ∙ ap (λ (x : ℕ). choose (isLate s ran report i) 3 x) (result-other s report log ran (place s i) (λ j e same. ne (e ∙ ap suc (sym (places-apart s (A .asked .is-sound) (A .asked .not-over) i j l (who-runs s table (A .asked) j e .below) same)))))
+      ∙ ap (λ (x : ℕ). choose (isLate s ran report i) 3 x) (result-other s report log ran (place s i) (λ j e same. ne (e ∙ ap suc (sym (places-apart s (went .asked .is-sound) (went .asked .not-over) i j l (who-runs s table (went .asked) j e .below) same)))))
       ∙ rw (slice-elsewhere s ran report i ne, ne-eqb ran (suc i) ne)
 
   -- The byte of the current job of each task.
@@ -168,7 +168,7 @@ module _ (s : State) (table : List ℕ) (clock report : ℕ) (log : List ℕ) (A
   unfolding logAfter
   log-elsewhere m ne =
       late-other s ran report (withResult s ran report log) (s .count) m ne
-      ∙ result-other s report log ran m (λ i e. ne i (who-runs s table (A .asked) i e .below))
+      ∙ result-other s report log ran m (λ i e. ne i (who-runs s table (went .asked) i e .below))
 
   -- neither that of another job of a task,
   pub log-other-job : (i k : ℕ) → i < s .count → k < s .cycle / periodOf s i → (k ≡ currentOf s i → ⊥) → getD after (offset s i + k) 0 ≡ getD log (offset s i + k) 0
@@ -176,12 +176,12 @@ module _ (s : State) (table : List ℕ) (clock report : ℕ) (log : List ℕ) (A
   log-other-job i k l lk ne =
       log-elsewhere (offset s i + k)
       (λ j lj e.
-      let same = jobs-apart s i j k (currentOf s j) lk (current-in-cycle s (A .asked .is-sound) (A .asked .not-over) j lj) e in
+      let same = jobs-apart s i j k (currentOf s j) lk (current-in-cycle s (went .asked .is-sound) (went .asked .not-over) j lj) e in
       ne (same .1 ∙ ap (currentOf s) (sym (same .0))))
 
   -- nor one beyond the jobs.
   pub log-beyond : (m : ℕ) → jobCount s ≤ m → getD after m 0 ≡ getD log m 0
-  log-beyond m l = log-elsewhere m (λ i li e. omega (arith, place-within s (A .asked .is-sound) (A .asked .not-over) i li))
+  log-beyond m l = log-elsewhere m (λ i li e. omega (arith, place-within s (went .asked .is-sound) (went .asked .not-over) i li))
 
   -- The cases of `log-byte`, each by its facts. A job that ends in this slice is done or over;
   module _ (i : ℕ) (l : i < s .count) where
@@ -212,5 +212,5 @@ module _ (s : State) (table : List ℕ) (clock report : ℕ) (log : List ℕ) (A
     pub log-ended : jobOf s i .ended ≡ true → getD after (place s i) 0 ≡ getD log (place s i) 0
     unfolding byteAfter choose
     log-ended e =
-        let other : ran ≡ suc i → ⊥ = λ r. true≢false (sym e ∙ who-runs s table (A .asked) i r .job-open) in
+        let other : ran ≡ suc i → ⊥ = λ r. true≢false (sym e ∙ who-runs s table (went .asked) i r .job-open) in
         log-byte i l ∙ rw (ne-eqb ran (suc i) other, e) (never-late (deadlineNext s i) (getD log (place s i) 0))

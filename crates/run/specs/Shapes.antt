@@ -6,16 +6,16 @@ use Prim.Native.Nat.{ℕ, zero, suc, _+_, _-_, _/_}
 use lib.Dec.{ltb, leb, eqb}
 use lib.ListN.{length, getD, set}
 use Rattle.basis.specs.Bytes.{at, overwrite}
-use Rattle.basis.specs.Choose.{choose}
+use Rattle.basis.specs.Choose.{choose, within}
 use Rattle.basis.specs.Sum.{sum}
 use Rattle.plan.specs.Plan.{first}
 use Rattle.run.specs.declared.ask.Asked.{Asked}
 use Rattle.run.specs.declared.Mode.{Mode}
 use Rattle.run.specs.declared.Mode.the-variants.{Table}
 use Rattle.run.specs.declared.State.{State}
-use Rattle.run.specs.State.{Job, within, every, soundTask, jobCount, place, deadlineNext, releaseNext}
-use Rattle.run.specs.Who.{running, orNext, whoRefusal}
-use Rattle.run.specs.Step.{nextClock, of14, stateOf}
+use Rattle.run.specs.State.{Job, every, soundTask, jobCount, place, deadlineNext, releaseNext}
+use Rattle.run.specs.Who.{running, whoRefusal}
+use Rattle.run.specs.Step.{nextClock, stateOf}
 
 -- ---- soundness and job count in one pass
 abbrev pub job : ℕ → Bool → Job
@@ -53,7 +53,7 @@ tableAsk ended count cycle position jobs table =
 -- ---- refusals 12 to 14
 unfoldable pub twelveOn : ℕ → ℕ → ℕ → ℕ → ℕ → ℕ → ℕ
 twelveOn jobs length last clock ran report =
-    orNext (choose (ltb length jobs) 12 0) (orNext (choose (eqb clock (nextClock last)) 0 13) (of14 ran report))
+    choose (ltb length jobs) 12 (choose (eqb clock (nextClock last)) (choose (ltb 1 report || (eqb report 1 && eqb ran 0)) 14 0) 13)
 
 -- ---- a slice
 -- What the job that ran has used in all, 0 in an idle slice; and the slices used by all.

@@ -5,11 +5,11 @@ use mathlib.Core.Logic.{⊎-elim, _↔_}
 use Prim.Native.Nat.{ℕ, zero, suc, _%_, _≤_, _<_, _∣_}
 use native.Mathlib.Omega.{arith}
 use native.Mathlib.Nat.{dvd-iff-mod-eq-zero}
-use lib.Dec.{leb, ltb}
+use lib.Dec.{ltb}
 use borrow.Author.Tests.{leb-true, le-leb, ltb-true, lt-ltb, eqb-true, eq-eqb}
-use Rattle.basis.specs.Choose.{both-true, below-suc}
+use Rattle.basis.specs.Choose.{both-true, below-suc, within-tells, is-within}
 use Rattle.run.specs.declared.State.{State}
-use Rattle.run.specs.State.{Job, periodOf, runtimeOf, currentOf, jobOf, within, every, soundTask, sound}
+use Rattle.run.specs.State.{Job, periodOf, runtimeOf, currentOf, jobOf, every, soundTask, sound}
 
 -- Each period from 1 to 4,096 and dividing the cycle; each run-time from 1 to its period; slices used at most the run-time,
 -- and below it unless the job has ended.
@@ -31,16 +31,7 @@ pub record SoundState (s : State) : Type 0 where
   pub position-to : s .position ≤ s .cycle
   pub tasks-sound : (i : ℕ) → i < s .count → SoundTask (s .cycle) (periodOf s i) (runtimeOf s i (currentOf s i)) (jobOf s i)
 
--- ---- tests of a range, and of every number below n
-module _ (low high x : ℕ) where
-  pub within-tells : within low high x ≡ true → (low ≤ x) × (x ≤ high)
-  unfolding within
-  within-tells e = let h = both-true (leb low x) (leb x high) .0 e in (leb-true low x (h .0), leb-true x high (h .1))
-
-  is-within : low ≤ x → x ≤ high → within low high x ≡ true
-  unfolding within
-  is-within l h = both-true (leb low x) (leb x high) .1 (le-leb low x l, le-leb x high h)
-
+-- ---- tests of every number below n
 module _ (test : ℕ → Bool) where
   pub every-tells : (n : ℕ) → every test n ≡ true → (i : ℕ) → i < n → test i ≡ true
   unfolding every

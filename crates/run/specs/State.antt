@@ -6,6 +6,7 @@ use lib.Dec.{leb, ltb, eqb}
 use lib.ListN.{getD}
 use Rattle.basis.specs.Bytes.{at}
 use Rattle.basis.specs.Sum.{sum}
+use Rattle.basis.specs.Choose.{within}
 use Rattle.run.specs.declared.State.{State}
 
 -- ---- tasks and jobs
@@ -44,9 +45,6 @@ unfoldable pub jobOf : State → ℕ → Job
 jobOf s i = record { used = at (s .used) i; ended = getD (s .ended) i false }
 
 -- ---- soundness
-unfoldable pub within : ℕ → ℕ → ℕ → Bool
-within low high x = leb low x && leb x high
-
 -- the test holds for every number below n
 unfoldable pub every : (ℕ → Bool) → ℕ → Bool
 every test zero = true

@@ -109,7 +109,7 @@ module _ (cycle period runtime : ℕ) (j : Job) (T : SoundTask cycle period runt
       omega arith)
 
 -- ---- the state after an accepted step
-module _ (s : State) (table : List ℕ) (clock report : ℕ) (log : List ℕ) (A : StepAccepted s table clock report log) where
+module _ (s : State) (table : List ℕ) (clock report : ℕ) (log : List ℕ) (went : StepAccepted s table clock report log) where
   abbrev ran : ℕ
   ran = running s table
 
@@ -126,7 +126,7 @@ module _ (s : State) (table : List ℕ) (clock report : ℕ) (log : List ℕ) (A
 
   module _ (i : ℕ) (l : i < s .count) where
     before-sound : SoundTask (s .cycle) (periodOf s i) (runtimeOf s i (currentOf s i)) (jobOf s i)
-    before-sound = A .asked .is-sound .tasks-sound i l
+    before-sound = went .asked .is-sound .tasks-sound i l
 
     abbrev Sound-with : Job → Type 0
     Sound-with = SoundTask (s .cycle) (periodOf s i) (runtimeOf s i (currentOf s i))
@@ -134,7 +134,7 @@ module _ (s : State) (table : List ℕ) (clock report : ℕ) (log : List ℕ) (A
     slice-sound : Sound-with (afterSlice s ran report i)
     slice-sound =
         ⊎-elim
-        (λ (e : ran ≡ suc i). rw (slice-here s ran report i e) (ran-sound _ _ _ _ before-sound report (who-runs s table (A .asked) i e .job-open)))
+        (λ (e : ran ≡ suc i). rw (slice-here s ran report i e) (ran-sound _ _ _ _ before-sound report (who-runs s table (went .asked) i e .job-open)))
         (λ (ne : ran ≡ suc i → ⊥). rw (slice-elsewhere s ran report i ne) before-sound)
         (eq-or-ne ran (suc i))
 
@@ -149,10 +149,10 @@ module _ (s : State) (table : List ℕ) (clock report : ℕ) (log : List ℕ) (A
   pub state-after-sound : Room s → SoundState after
   unfolding stateAfter periodOf runtimeOf
   state-after-sound R = record {
-    count-from = A .asked .is-sound .count-from;
-    count-to = A .asked .is-sound .count-to;
-    cycle-from = A .asked .is-sound .cycle-from;
-    cycle-to = A .asked .is-sound .cycle-to;
-    position-to = omega (arith, A .asked .not-over);
+    count-from = went .asked .is-sound .count-from;
+    count-to = went .asked .is-sound .count-to;
+    cycle-from = went .asked .is-sound .cycle-from;
+    cycle-to = went .asked .is-sound .cycle-to;
+    position-to = omega (arith, went .asked .not-over);
     tasks-sound = λ i l. rw (job-after R i l) (turned-sound i l);
   }

@@ -7,35 +7,38 @@ use lib.Dec.{ltb, eqb}
 use lib.ListN.{length, set}
 use Rattle.basis.specs.Choose.{choose}
 use Rattle.basis.specs.Bytes.{overwrite}
+use Rattle.basis.specs.Answer.{Answer, refusal, none, _orElse_}
 use Rattle.run.specs.declared.Mode.{Mode}
 use Rattle.run.specs.declared.State.{State}
 use Rattle.run.specs.declared.Closed.{Closed}
 use Rattle.run.specs.declared.Closed.the-variants.{Accepted, Refused}
 use Rattle.run.specs.declared.Next.{Next}
 use Rattle.run.specs.State.{Job, fresh, runtimeOf, currentOf, jobOf, jobCount, place, deadlineNext, releaseNext}
-use Rattle.run.specs.Who.{running, orNext, whoRefusal}
+use Rattle.run.specs.Who.{running, whoFound}
 
 -- ---- refusals 12 to 14, after 9 to 11
 -- 12: log shorter than the job count.
-unfoldable pub of12 : State → List ℕ → ℕ
-of12 s log = choose (ltb (length log) (jobCount s)) 12 0
+unfoldable pub of12 : State → List ℕ → Answer
+of12 s log = choose (ltb (length log) (jobCount s)) (refusal 12 0) none
 
 -- After 4,294,967,295 comes 0.
 unfoldable pub nextClock : ℕ → ℕ
 nextClock clock = (clock + 1) % 2 ^ 32
 
 -- 13: clock reading wrong: not one more than the last.
-unfoldable pub of13 : State → ℕ → ℕ
-of13 s clock = choose (eqb clock (nextClock (s .clock))) 0 13
+unfoldable pub of13 : State → ℕ → Answer
+of13 s clock = choose (eqb clock (nextClock (s .clock))) none (refusal 13 0)
 
 -- 14: report above 1, or finished in an idle slice.
-unfoldable pub of14 : ℕ → ℕ → ℕ
-of14 ran report = choose (ltb 1 report || (eqb report 1 && eqb ran 0)) 14 0
+unfoldable pub of14 : ℕ → ℕ → Answer
+of14 ran report = choose (ltb 1 report || (eqb report 1 && eqb ran 0)) (refusal 14 0) none
 
 -- A step goes 9 to 14.
-unfoldable pub stepRefusal : State → List ℕ → ℕ → ℕ → List ℕ → ℕ
-stepRefusal s table clock report log =
-    orNext (whoRefusal s table) (orNext (of12 s log) (orNext (of13 s clock) (of14 (running s table) report)))
+unfoldable pub stepFound : State → List ℕ → ℕ → ℕ → List ℕ → Answer
+stepFound s table clock report log = whoFound s table orElse of12 s log orElse of13 s clock orElse of14 (running s table) report
+
+abbrev pub stepRefusal : State → List ℕ → ℕ → ℕ → List ℕ → ℕ
+stepRefusal s table clock report log = stepFound s table clock report log .number
 
 -- ---- what the slice does, `ran` being the entry of the task that ran and `report` 0 for still working, 1 for finished
 -- The task that ran used one slice more. Its job has ended if it finished, or if this slice completes its run-time.
@@ -112,13 +115,13 @@ pub record SteppedIn (s : State) (table : List ℕ) (clock report : ℕ) (log lo
   pub ended : ended′ ≡ nextState (stepRefusal s table clock report log) s (stateAfter s (running s table) clock report) .ended
   pub bytes : log′ ≡ nextLog (stepRefusal s table clock report log) log (logAfter s (running s table) report log)
 
--- The paper's number of refusal for each case; 0 for none.
-unfoldable pub closedNumber : Closed → ℕ
-closedNumber Accepted = 0
-closedNumber (Refused n) = n
+-- The paper's values of each case.
+unfoldable pub closedAnswer : Closed → Answer
+closedAnswer Accepted = none
+closedAnswer (Refused n) = refusal n 0
 
 -- What a step's answer says is the refusal that was found.
-pub closed-number : (n : ℕ) → closedNumber (answerOf n) ≡ n
-unfolding closedNumber answerOf
+pub closed-number : (n : ℕ) → closedAnswer (answerOf n) ≡ refusal n 0
+unfolding closedAnswer answerOf none
 closed-number zero = refl
 closed-number (suc n) = refl

@@ -3,8 +3,10 @@ use mathlib.Core.List.{List}
 use mathlib.Core.Bool.{_||_}
 use Prim.Native.Nat.{ℕ, zero, suc}
 use lib.Dec.{ltb, eqb}
+use lib.IntN.{pos}
 use lib.ListN.{length, getD}
 use Rattle.basis.specs.Choose.{choose}
+use Rattle.basis.specs.Answer.{Answer, refusal, none, _orElse_}
 use Rattle.plan.specs.Plan.{first}
 use Rattle.run.specs.declared.Mode.{Mode}
 use Rattle.run.specs.declared.Mode.the-variants.{Table, Filling}
@@ -32,30 +34,28 @@ unfoldable pub running : State → List ℕ → ℕ
 running s table = runningBy (s .mode) s table
 
 -- ---- refusals 9 to 11
--- A number of refusal; 0 for none. The first that applies is given.
-unfoldable pub orNext : ℕ → ℕ → ℕ
-orNext zero n = n
-orNext (suc m) n = suc m
-
 -- 9: state not sound.
-unfoldable pub of9 : State → ℕ
-of9 s = choose (sound s) 0 9
+unfoldable pub of9 : State → Answer
+of9 s = choose (sound s) none (refusal 9 0)
 
 -- 10: run over (position is the cycle).
-unfoldable pub of10 : State → ℕ
-of10 s = choose (eqb (s .position) (s .cycle)) 10 0
+unfoldable pub of10 : State → Answer
+of10 s = choose (eqb (s .position) (s .cycle)) (refusal 10 0) none
 
 -- 11: by the table: length below the cycle, or the entry above the task count.
-unfoldable pub of11By : Mode → State → List ℕ → ℕ
-of11By Table s table = choose (ltb (length table) (s .cycle) || ltb (s .count) (getD table (s .position) 0)) 11 0
-of11By Filling s table = 0
+unfoldable pub of11By : Mode → State → List ℕ → Answer
+of11By Table s table = choose (ltb (length table) (s .cycle) || ltb (s .count) (getD table (s .position) 0)) (refusal 11 0) none
+of11By Filling s table = none
 
-unfoldable pub of11 : State → List ℕ → ℕ
+unfoldable pub of11 : State → List ℕ → Answer
 of11 s table = of11By (s .mode) s table
 
 -- Asking who runs goes 9 to 11.
-unfoldable pub whoRefusal : State → List ℕ → ℕ
-whoRefusal s table = orNext (of9 s) (orNext (of10 s) (of11 s table))
+unfoldable pub whoFound : State → List ℕ → Answer
+whoFound s table = of9 s orElse of10 s orElse of11 s table
+
+abbrev pub whoRefusal : State → List ℕ → ℕ
+whoRefusal s table = whoFound s table .number
 
 -- ---- the answer
 unfoldable pub ofEntry : ℕ → Runner
@@ -69,12 +69,8 @@ answered (suc n) entry = Refused (suc n)
 unfoldable pub whoOf : State → List ℕ → Runner
 whoOf s table = answered (whoRefusal s table) (running s table)
 
--- The paper's number of refusal (0: none) and task for each case. Refused, it answers task 0.
-pub record WhoNumbers : Type 0 where
-  pub number : ℕ
-  pub task : ℕ
-
-unfoldable pub whoNumbers : Runner → WhoNumbers
-whoNumbers Idle = record { number = 0; task = 0 }
-whoNumbers (Task n) = record { number = 0; task = n }
-whoNumbers (Refused n) = record { number = n; task = 0 }
+-- The paper's values of each case. Refused, it answers task 0.
+unfoldable pub runnerAnswer : Runner → Answer
+runnerAnswer Idle = none
+runnerAnswer (Task n) = record { number = 0; task = n; margin = pos 0; cycle = 0; jobs = 0 }
+runnerAnswer (Refused n) = refusal n 0

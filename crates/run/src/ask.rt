@@ -1,6 +1,8 @@
 // Who runs in the slice at the position, and refusals 9 to 11.
 ghost use mathlib.Core.Path.{_≡_};
-ghost use Prim.Native.Nat.{ℕ, _≤_, _<_};
+ghost use mathlib.Core.Bool.{false};
+ghost use Prim.Native.Nat.{ℕ, _-_, _≤_, _<_};
+ghost use lib.ListN.{getD};
 ghost use Rattle.basis.specs.Bytes.{at};
 ghost use Rattle.basis.specs.Choose.{choose};
 ghost use Rattle.plan.specs.Plan.{firstOf};
@@ -8,6 +10,7 @@ ghost use Rattle.run.specs.Step.{stateOf};
 ghost use Rattle.run.specs.Shapes.{openFirst, tableAsk, Answers};
 use crate::Mode;
 use crate::sound::jobs_if_sound;
+use readings::Entry;
 
 // The deadline of a task's jobs, counted from the release.
 pub(crate) fn due_of(period: u32) -> u32
@@ -71,6 +74,14 @@ fn refusal(number: u32) -> Asked
     }
 }
 
+// The entry of a task whose current job has not ended; else idle.
+fn if_open(ended: &[bool; 16], task: usize) -> usize
+    requires { ⌜ (1 ≤ task) × (task ≤ 16) ⌝ }
+    ensures { λ r. ⌜ r ≡ choose (getD (now (ended .entry)) (task - 1) false) 0 task ⌝ }
+{
+    if ended[task - 1] { 0 } else { task }
+}
+
 // By the table: the task of the entry, unless its current job has ended.
 fn by_table(
     ended: &[bool; 16],
@@ -86,28 +97,19 @@ fn by_table(
     if table.len() < cycle as usize {
         return refusal(11);
     }
-    let entry = table[position as usize] as usize;
-    if count < entry {
-        return refusal(11);
-    }
-    if entry == 0 {
-        return Asked {
+    let entry = readings::read_entry(table[position as usize], count);
+    match entry {
+        Entry::Idle => Asked {
             number: 0,
             jobs,
             ran: 0,
-        };
-    }
-    if ended[entry - 1] {
-        return Asked {
+        },
+        Entry::Task(task) => Asked {
             number: 0,
             jobs,
-            ran: 0,
-        };
-    }
-    Asked {
-        number: 0,
-        jobs,
-        ran: entry,
+            ran: if_open(ended, task),
+        },
+        Entry::NoEntry(_) => refusal(11),
     }
 }
 

@@ -1,7 +1,8 @@
 // Refusal 9: state not sound.
 ghost use mathlib.Core.Path.{_≡_};
 ghost use Prim.Native.Nat.{_≤_};
-ghost use Rattle.run.specs.State.{within, soundTask};
+ghost use Rattle.basis.specs.Choose.{within};
+ghost use Rattle.run.specs.State.{soundTask};
 ghost use Rattle.run.specs.Shapes.{job, jobsOf, jobsIfSound};
 
 fn is_within(low: u32, high: u32, x: u32) -> bool

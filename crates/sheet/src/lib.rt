@@ -2,6 +2,7 @@
 use bench::Driven;
 use libc::STDOUT_FILENO;
 use readings::Logged;
+use readings::Refusal;
 use run::Mode;
 use start::Begun;
 use tasks::TaskList;
@@ -47,8 +48,23 @@ fn say_verdict(cycle: u32, jobs: u32, task: usize, margin: i32) {
     say(b"\n");
 }
 
+// Which part of the product refuses.
+fn say_part(number: u32) {
+    let part = readings::read_refusal(number);
+    match part {
+        Refusal::Bound(_) => say(b" (a bound of the list)"),
+        Refusal::Lateness => say(b" (a deadline missed)"),
+        Refusal::ShortTable => say(b" (table too short)"),
+        Refusal::Run(_) => say(b" (the run)"),
+        Refusal::Program(_) => say(b" (the program)"),
+        Refusal::Conversion => say(b" (a conversion)"),
+        Refusal::NoRefusal(_) => say(b" (no refusal of ours)"),
+    }
+}
+
 fn say_refusal(number: u32, task: usize, margin: i32) {
     say_number(b"refusal ", number as u64);
+    say_part(number);
     say_number(b", task ", task as u64);
     say_margin(b", margin ", margin);
     say(b"\n");
@@ -114,27 +130,42 @@ fn jobs_in(cycle: u32, period: u32) -> u32 {
     if period == 0 { 0 } else { cycle / period }
 }
 
-// The jobs of one task, whose places in the log begin at `from`. Answers where those of the next task begin.
-fn say_jobs(task: usize, jobs: u32, from: usize, log: &[u8], ends: &[u32]) -> usize {
-    let mut at = from;
-    let mut job = 0;
-    while job < jobs && at < log.len() {
-        say_job(task, job, log[at], end_at(ends, at));
-        at += 1;
-        job += 1;
+// Whose job stands at a place of the log: its task, counted from 0, and its number.
+struct Place {
+    task: usize,
+    job: u32,
+}
+
+// Says the job there, if there is one, and answers whose the next is. In an accepted list every task has a job.
+fn say_place(list: TaskList, cycle: u32, place: Place, byte: u8, end: u32) -> Place {
+    let tasks = list.tasks;
+    let task = place.task;
+    let job = place.job;
+    if list.count <= task {
+        return place;
     }
-    at
+    if 16 <= task {
+        return place;
+    }
+    say_job(task + 1, job, byte, end);
+    let t = tasks[task];
+    let next = std::num::wrapping_add_u32(job, 1);
+    if next < jobs_in(cycle, t.period) {
+        return Place { task, job: next };
+    }
+    Place {
+        task: task + 1,
+        job: 0,
+    }
 }
 
 fn say_tasks(list: TaskList, cycle: u32, log: &[u8], ends: &[u32]) {
-    let tasks = list.tasks;
-    let count = list.count;
-    let mut from = 0;
-    let mut i = 0;
-    while i < 16 && i < count {
-        let task = tasks[i];
-        from = say_jobs(i + 1, jobs_in(cycle, task.period), from, log, ends);
-        i += 1;
+    let mut place = Place { task: 0, job: 0 };
+    let mut at = 0;
+    while at < log.len() {
+        let next = say_place(list, cycle, place, log[at], end_at(ends, at));
+        place = next;
+        at += 1;
     }
 }
 

@@ -110,7 +110,7 @@ pub extern "C" fn speed_build(numbers: &[u32], supply: u32, table: &mut [u8]) ->
     of_verdict(verdict::build(list_of(numbers), supply, table))
 }
 
-// The start.
+// The start, with the cycle of its state: 0 if it is refused.
 #[no_mangle]
 pub extern "C" fn speed_start(
     numbers: &[u32],
@@ -137,7 +137,7 @@ pub extern "C" fn speed_start(
         } => Answer {
             number,
             margin,
-            cycle: 0,
+            cycle: state.cycle,
             jobs: 0,
             task,
         },

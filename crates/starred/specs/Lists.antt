@@ -4,9 +4,10 @@ use mathlib.Core.List.{List, [], _∷_}
 use Prim.Native.Nat.{ℕ}
 use lib.IntN.{ℤ, pos, subℕ}
 use lib.ListN.{replicate}
+use Rattle.basis.specs.Answer.{Answer}
 use Rattle.tasks.specs.declared.Task.{Task}
 use Rattle.tasks.specs.List.{listOf}
-use Rattle.verdict.specs.Verdict.{verdictOf, Numbers, numbers}
+use Rattle.verdict.specs.Verdict.{verdictOf, verdictAnswer}
 use Rattle.verdict.specs.Table.{tabled}
 
 -- Written (period, run-time), memory 0.
@@ -14,18 +15,18 @@ unfoldable pub task : ℕ → ℕ → Task
 task period runtime = record { period = period; runtime = runtime; memory = 0 }
 
 -- Refusal number (0: accepted), task, margin, cycle and job count of a list, with a supply of 0.
-unfoldable pub verdict : List Task → Numbers
-verdict ts = numbers (verdictOf (listOf ts) 0)
+unfoldable pub verdict : List Task → Answer
+verdict ts = verdictAnswer (verdictOf (listOf ts) 0)
 
 -- What table building leaves in n bytes that all held 255.
 unfoldable pub entries : List Task → ℕ → List ℕ
 entries ts n = tabled (listOf ts) (verdictOf (listOf ts) 0) (replicate n 255)
 
-unfoldable pub accepted : ℕ → ℤ → ℕ → ℕ → Numbers
-accepted task margin cycle jobs = record { number = 0; task = task; signed = margin; cycle = cycle; jobs = jobs }
+unfoldable pub accepted : ℕ → ℤ → ℕ → ℕ → Answer
+accepted task margin cycle jobs = record { number = 0; task = task; margin = margin; cycle = cycle; jobs = jobs }
 
-unfoldable pub late : ℕ → ℤ → Numbers
-late task margin = record { number = 7; task = task; signed = margin; cycle = 0; jobs = 0 }
+unfoldable pub late : ℕ → ℤ → Answer
+late task margin = record { number = 7; task = task; margin = margin; cycle = 0; jobs = 0 }
 
 unfoldable pub A : List Task
 A = task 4 1 ∷ task 6 2 ∷ task 12 3 ∷ []

@@ -4,10 +4,11 @@ use mathlib.Core.List.{List}
 use mathlib.Core.Bool.{false}
 use Prim.Native.Nat.{ℕ}
 use lib.Dec.{ltb}
-use lib.IntN.{ℤ, pos}
+use lib.IntN.{pos}
 use lib.ListN.{length, replicate}
 use Rattle.basis.specs.Choose.{choose}
 use Rattle.basis.specs.Bytes.{overwrite}
+use Rattle.basis.specs.Answer.{Answer, none}
 use Rattle.tasks.specs.declared.TaskList.{TaskList}
 use Rattle.tasks.specs.List.{taskAt, runtimeOf}
 use Rattle.verdict.specs.declared.Verdict.{Verdict}
@@ -78,12 +79,7 @@ pub record Begins (l : TaskList) (supply : ℕ) (asked : Asked) (clock : ℕ) (l
   pub state : r .state ≡ begunState l asked clock (verdictOf l supply) (length log)
   pub bytes : log′ ≡ begunLog (verdictOf l supply) log
 
--- ---- the paper's number and values for each case
-pub record BegunNumbers : Type 0 where
-  pub number : ℕ
-  pub task : ℕ
-  pub signed : ℤ
-
-unfoldable pub begunNumbers : Begun → BegunNumbers
-begunNumbers begun.Accepted = record { number = 0; task = 0; signed = pos 0 }
-begunNumbers (begun.Refused number task margin) = record { number = number; task = task; signed = margin }
+-- The paper's values of each case.
+unfoldable pub begunAnswer : Begun → Answer
+begunAnswer begun.Accepted = none
+begunAnswer (begun.Refused number task margin) = record { number = number; task = task; margin = margin; cycle = 0; jobs = 0 }

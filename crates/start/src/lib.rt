@@ -4,7 +4,7 @@ ghost use Prim.Native.Nat.{_≤_};
 ghost use lib.ListN.{length};
 ghost use Rattle.basis.specs.Bytes.{overwrite};
 ghost use Rattle.tasks.specs.List.{taskAt, runtimeOf};
-ghost use Rattle.start.specs.Start.{modeOf, startState, noRun, Begins};
+ghost use Rattle.start.specs.Start.{modeOf, noRun, Begins};
 use run::Mode;
 use run::State;
 use tasks::TaskList;
@@ -58,26 +58,6 @@ fn read(list: TaskList, periods: &mut [u32; 16], runtimes: &mut [u32; 16])
     }
 }
 
-fn begin(list: TaskList, cycle: u32, asked: Asked, clock: u32) -> State
-    requires { ⌜ list .count ≤ 16 ⌝ }
-    ensures { λ r. ⌜ r ≡ startState list cycle (modeOf asked) clock ⌝ }
-{
-    let mut periods = [0u32; 16];
-    let mut runtimes = [0u32; 16];
-    read(list, &mut periods, &mut runtimes);
-    State {
-        periods,
-        runtimes,
-        used: [0u32; 16],
-        ended: [false; 16],
-        count: list.count,
-        cycle,
-        position: 0,
-        clock,
-        mode: mode_of(asked),
-    }
-}
-
 // The state of a refused start.
 fn no_run() -> State
     ensures { λ r. ⌜ r ≡ noRun ⌝ }
@@ -112,19 +92,22 @@ pub fn start(list: TaskList, supply: u32, asked: Asked, clock: u32, log: &mut [u
     ensures { λ r. ⌜ Begins list supply asked clock (now (log .entry)) (now (log .exit)) r ⌝ }
 {
     let verdict = verdict::judge(list, supply);
+    // a return in each arm: what a match comes to would be copied once more
     match verdict {
         Verdict::Refused {
             number,
             task,
             margin,
-        } => Started {
-            answer: Begun::Refused {
-                number,
-                task,
-                margin,
-            },
-            state: no_run(),
-        },
+        } => {
+            return Started {
+                answer: Begun::Refused {
+                    number,
+                    task,
+                    margin,
+                },
+                state: no_run(),
+            };
+        }
         Verdict::Accepted {
             cycle,
             jobs,
@@ -142,10 +125,23 @@ pub fn start(list: TaskList, supply: u32, asked: Asked, clock: u32, log: &mut [u
                 };
             }
             clear(log, jobs as usize);
-            Started {
+            let mut periods = [0u32; 16];
+            let mut runtimes = [0u32; 16];
+            read(list, &mut periods, &mut runtimes);
+            return Started {
                 answer: Begun::Accepted,
-                state: begin(list, cycle, asked, clock),
-            }
+                state: State {
+                    periods,
+                    runtimes,
+                    used: [0u32; 16],
+                    ended: [false; 16],
+                    count: list.count,
+                    cycle,
+                    position: 0,
+                    clock,
+                    mode: mode_of(asked),
+                },
+            };
         }
     }
 }

@@ -8,16 +8,17 @@ use lib.Dec.{ltb}
 use borrow.Author.Tests.{lt-ltb}
 use Rattle.basis.specs.Choose.{choose, choose-yes}
 use Rattle.basis.specs.Sum.{sum}
+use Rattle.basis.specs.Answer.{Answer, refusal, none, firstFound, none-else, found-at}
 use Rattle.tasks.specs.declared.Task.{Task}
 use Rattle.tasks.specs.declared.Finding.{Finding}
 use Rattle.tasks.specs.List.{taskAt}
 use Rattle.tasks.specs.Euclid.{lcmOf}
-use Rattle.tasks.specs.Bounds.{firstFound, ofNumbers, ofTask, multiple, memorySum, jobSum, refusal, none}
-use Rattle.tasks.specs.Kept.{none-else, one-test-none}
-use Rattle.tasks.specs.Shapes.{Finds, found-at}
+use Rattle.tasks.specs.Bounds.{ofNumbers, ofTask, multiple, memorySum, jobSum}
+use Rattle.tasks.specs.Kept.{one-test-none}
+use Rattle.tasks.specs.Shapes.{asAnswer, Finds}
 
 -- ---- a search that stops at the first it finds
-module _ (find : ℕ → Finding) where
+module _ (find : ℕ → Answer) where
   pub nothing-yet : firstFound find 0 .number ≡ 0
   unfolding firstFound none refusal
   nothing-yet = refl
@@ -26,23 +27,23 @@ module _ (find : ℕ → Finding) where
   unfolding firstFound
   nothing-here i so-far here = rw add-one (none-else (firstFound find i) (find i) so-far here)
 
-  pub found-here : (n i : ℕ) (r : Finding) → i < n → firstFound find i .number ≡ 0 → r ≡ find i → (r .number ≡ 0 → ⊥) → Finds (firstFound find n) r
+  pub found-here : (n i : ℕ) (r : Finding) → i < n → firstFound find i .number ≡ 0 → asAnswer r ≡ find i → (r .number ≡ 0 → ⊥) → Finds (firstFound find n) r
+  unfolding refusal
   found-here n i r l so-far e some = record {
     nothing = λ z. absurd (some z);
-    this = λ _. found-at find n i l so-far (λ z. some (ap (λ (f : Finding). f .number) e ∙ z)) ∙ sym e;
+    this = λ _. found-at find n i l so-far (λ z. some (ap (λ (a : Answer). a .number) e ∙ z)) ∙ sym e;
   }
 
   pub nothing-at-all : (n i t : ℕ) → i ≡ n → firstFound find i .number ≡ 0 → Finds (firstFound find n) (record { number = 0; task = t })
   nothing-at-all n i t e z = record { nothing = λ _. ap (λ (x : ℕ). firstFound find x .number) (sym e) ∙ z; this = λ some. absurd (some refl) }
 
-pub of-task-at : (ts : List Task) (i : ℕ) (g : Finding) → g ≡ ofNumbers (taskAt ts i .period) (taskAt ts i .runtime) (i + 1) → g ≡ ofTask ts i
+pub of-task-at : (ts : List Task) (i : ℕ) (g : Answer) → g ≡ ofNumbers (taskAt ts i .period) (taskAt ts i .runtime) (i + 1) → g ≡ ofTask ts i
 unfolding ofTask
 of-task-at ts i g e = rw (← add-one i) e
 
 -- ---- refusals 5 and 6: a running number that exceeds its bound
 module _ (bound number i x : ℕ) where
-  pub exceeds : (y : ℕ) → y ≡ x → bound < y → record { number = suc number; task = i + 1 } ≡ choose (ltb bound x) (refusal (suc number) (suc i)) none
-  unfolding refusal
+  pub exceeds : (y : ℕ) → y ≡ x → bound < y → refusal (suc number) (i + 1) ≡ choose (ltb bound x) (refusal (suc number) (suc i)) none
   exceeds y e l = rw (add-one i) (sym (choose-yes _ _ _ (lt-ltb bound x (omega arith))))
 
   pub keeps-to : (y : ℕ) → y ≡ x → y ≤ bound → choose (ltb bound x) (refusal (suc number) (suc i)) none .number ≡ 0

@@ -1,14 +1,15 @@
 -- What bounds a task list: refusals 1 to 6, in the order in which they are looked for, and the cycle and job count of a
 -- list that keeps all bounds.
 use mathlib.Core.List.{List}
-use mathlib.Core.Bool.{Bool, _||_}
+use mathlib.Core.Bool.{not}
 use Prim.Native.Nat.{ℕ, zero, suc, _/_}
 use lib.Dec.{ltb, eqb}
-use Rattle.basis.specs.Choose.{choose}
+use lib.IntN.{pos}
+use Rattle.basis.specs.Choose.{choose, within}
 use Rattle.basis.specs.Sum.{sum}
+use Rattle.basis.specs.Answer.{Answer, refusal, none, _orElse_, firstFound}
 use Rattle.tasks.specs.declared.Task.{Task}
 use Rattle.tasks.specs.declared.TaskList.{TaskList}
-use Rattle.tasks.specs.declared.Finding.{Finding}
 use Rattle.tasks.specs.declared.Bounds.{Bounds}
 use Rattle.tasks.specs.declared.Bounds.the-variants.{Kept, Broken}
 use Rattle.tasks.specs.List.{taskAt}
@@ -34,49 +35,29 @@ cycleOf l = multiple (l .tasks) (l .count)
 unfoldable pub jobsOf : TaskList → ℕ
 jobsOf l = jobSum (l .tasks) (cycleOf l) (l .count)
 
--- ---- what is found
--- A refusal by its number, with the task that it names; number 0 where there is none.
-unfoldable pub refusal : ℕ → ℕ → Finding
-refusal number task = record { number = number; task = task }
-
-unfoldable pub none : Finding
-none = refusal 0 0
-
-infixr 30 _orElse_
-unfoldable pub _orElse_ : Finding → Finding → Finding
-f orElse g = choose (eqb (f .number) 0) g f
-
--- the first that is found of the tasks below n
-unfoldable pub firstFound : (ℕ → Finding) → ℕ → Finding
-firstFound find zero = none
-firstFound find (suc n) = firstFound find n orElse find n
-
 -- ---- refusals 1 to 6
-unfoldable pub outside : ℕ → ℕ → ℕ → Bool
-outside low high x = ltb x low || ltb high x
-
 -- 1: no tasks. 2: more than 16.
-unfoldable pub ofCount : ℕ → Finding
+unfoldable pub ofCount : ℕ → Answer
 ofCount n = choose (eqb n 0) (refusal 1 0) (choose (ltb 16 n) (refusal 2 0) none)
 
 -- 3: period outside 1 to 4,096. 4: run-time 0 or above the period. Both name that task.
-unfoldable pub ofNumbers : ℕ → ℕ → ℕ → Finding
+unfoldable pub ofNumbers : ℕ → ℕ → ℕ → Answer
 ofNumbers period runtime task =
-    choose (outside 1 4096 period) (refusal 3 task) (choose (outside 1 period runtime) (refusal 4 task) none)
+    choose (not (within 1 4096 period)) (refusal 3 task) (choose (not (within 1 period runtime)) (refusal 4 task) none)
 
-unfoldable pub ofTask : List Task → ℕ → Finding
+unfoldable pub ofTask : List Task → ℕ → Answer
 ofTask ts i = ofNumbers (taskAt ts i .period) (taskAt ts i .runtime) (suc i)
 
 -- 5: memory exceeds the supply; names the first task where the running sum does.
-unfoldable pub ofMemory : List Task → ℕ → ℕ → Finding
+unfoldable pub ofMemory : List Task → ℕ → ℕ → Answer
 ofMemory ts supply i = choose (ltb supply (memorySum ts (suc i))) (refusal 5 (suc i)) none
 
 -- 6: cycle above 4,096; names the first task where the running multiple is.
-unfoldable pub ofCycle : List Task → ℕ → Finding
+unfoldable pub ofCycle : List Task → ℕ → Answer
 ofCycle ts i = choose (ltb 4096 (multiple ts (suc i))) (refusal 6 (suc i)) none
 
 -- Lists go 1, 2, then 3 and 4 task by task, then 5, then 6.
-unfoldable pub found : TaskList → ℕ → Finding
+unfoldable pub found : TaskList → ℕ → Answer
 found l supply =
     ofCount (l .count)
     orElse firstFound (ofTask (l .tasks)) (l .count)
@@ -84,20 +65,13 @@ found l supply =
     orElse firstFound (ofCycle (l .tasks)) (l .count)
 
 -- The answer: the refusal found, or else cycle and job count.
-unfoldable pub answer : Finding → ℕ → ℕ → Bounds
+unfoldable pub answer : Answer → ℕ → ℕ → Bounds
 answer f cycle jobs = choose (eqb (f .number) 0) (Kept cycle jobs) (Broken (f .number) (f .task))
 
 unfoldable pub boundsOf : TaskList → ℕ → Bounds
 boundsOf l supply = answer (found l supply) (cycleOf l) (jobsOf l)
 
--- ---- the paper's number and values for each case
--- Refusal number (0: none) and task, cycle and job count. Refused, cycle and job count are 0.
-pub record BoundsNumbers : Type 0 where
-  pub number : ℕ
-  pub task : ℕ
-  pub cycle : ℕ
-  pub jobs : ℕ
-
-unfoldable pub boundsNumbers : Bounds → BoundsNumbers
-boundsNumbers (Kept cycle jobs) = record { number = 0; task = 0; cycle = cycle; jobs = jobs }
-boundsNumbers (Broken number task) = record { number = number; task = task; cycle = 0; jobs = 0 }
+-- The paper's values of each case.
+unfoldable pub boundsAnswer : Bounds → Answer
+boundsAnswer (Kept cycle jobs) = record { number = 0; task = 0; margin = pos 0; cycle = cycle; jobs = jobs }
+boundsAnswer (Broken number task) = refusal number task

@@ -1,74 +1,25 @@
 -- What a list that keeps all bounds is like, said without numbers of refusal; and that its cycle is the least common multiple of its periods.
 use mathlib.Core.Path.{_≡_, refl, sym, ap, subst, _∙_}
 use mathlib.Core.List.{List}
-use mathlib.Core.Bool.{Bool, true, false, true≢false}
+use mathlib.Core.Bool.{not}
 use mathlib.Core.Logic.{⊎-elim, _↔_}
 use Prim.Native.Nat.{ℕ, zero, suc, _≤_, _<_, _∣_}
 use native.Mathlib.Omega.{arith}
 use native.Mathlib.Nat.{one-dvd, dvd-trans, le-of-dvd, pos-of-ne-zero}
 use lib.Dec.{ltb, eqb}
-use borrow.Author.Tests.{lt-ltb, le-ltb, ltb-false, eq-eqb, ne-eqb, eqb-false}
-use Rattle.basis.specs.Choose.{choose, choose-yes, choose-no, choose-either, le-or-lt, eq-or-ne, below-suc}
+use borrow.Author.Tests.{le-ltb, ltb-false, eq-eqb, ne-eqb, eqb-false, not-false}
+use Rattle.basis.specs.Choose.{choose, choose-yes, choose-no, choose-either, eq-or-ne, below-suc, within, within-tells, is-within}
 use Rattle.basis.specs.Sum.{sum-grows}
+use Rattle.basis.specs.Answer.{Answer, refusal, none, _orElse_, firstFound, else-none, none-else, found-none, none-found, passed-if, none-number}
 use Rattle.tasks.specs.declared.Task.{Task}
 use Rattle.tasks.specs.declared.TaskList.{TaskList}
-use Rattle.tasks.specs.declared.Finding.{Finding}
 use Rattle.plan.specs.Plan.{Sound, Monotonic}
 use Rattle.tasks.specs.declared.Bounds.the-variants.{Kept, Broken}
 use Rattle.tasks.specs.List.{taskAt, planOf}
 use Rattle.tasks.specs.Euclid.{LeastCommonMultiple, lcm-is-least, lcm-pos}
-use Rattle.tasks.specs.Bounds.{multiple, memorySum, cycleOf, jobsOf, answer, boundsOf, refusal, none, _orElse_, firstFound, outside, ofCount, ofNumbers, ofTask, ofMemory, ofCycle, found}
-
--- ---- the first that is found
-module _ (f g : Finding) where
-  pub else-found : (f .number ≡ 0) → (f orElse g) ≡ g
-  unfolding _orElse_
-  else-found z = choose-yes (eqb (f .number) 0) g f (eq-eqb (f .number) 0 z)
-
-  pub else-kept : (f .number ≡ 0 → ⊥) → (f orElse g) ≡ f
-  unfolding _orElse_
-  else-kept nz = choose-no (eqb (f .number) 0) g f (ne-eqb (f .number) 0 nz)
-
-  pub else-none : (f orElse g) .number ≡ 0 → (f .number ≡ 0) × (g .number ≡ 0)
-  else-none z =
-      ⊎-elim
-      (λ (h : f .number ≡ 0). (h, sym (ap (λ (x : Finding). x .number) (else-found h)) ∙ z))
-      (λ (h : f .number ≡ 0 → ⊥). absurd (h (sym (ap (λ (x : Finding). x .number) (else-kept h)) ∙ z)))
-      (eq-or-ne (f .number) 0)
-
-  pub none-else : f .number ≡ 0 → g .number ≡ 0 → (f orElse g) .number ≡ 0
-  none-else h k = ap (λ (x : Finding). x .number) (else-found h) ∙ k
-
-module _ (find : ℕ → Finding) where
-  pub found-none : (n : ℕ) → firstFound find n .number ≡ 0 → (i : ℕ) → i < n → find i .number ≡ 0
-  unfolding firstFound
-  found-none zero z i l = absurd (omega arith)
-  found-none (suc n) z i l =
-      let h = else-none (firstFound find n) (find n) z in
-      ⊎-elim (λ (b : i < n). found-none n (h .0) i b) (λ (e : i ≡ n). ap (λ (x : ℕ). find x .number) e ∙ h .1) (below-suc i n l)
-
-  pub none-found : (n : ℕ) → ((i : ℕ) → i < n → find i .number ≡ 0) → firstFound find n .number ≡ 0
-  unfolding firstFound none refusal
-  none-found zero h = refl
-  none-found (suc n) h = none-else (firstFound find n) (find n) (none-found n (λ i l. h i (omega arith))) (h n (omega arith))
+use Rattle.tasks.specs.Bounds.{multiple, memorySum, cycleOf, jobsOf, answer, boundsOf, ofCount, ofNumbers, ofTask, ofMemory, ofCycle, found}
 
 -- ---- refusals 1 to 4
-pub inside : (low high x : ℕ) → outside low high x ≡ false → (low ≤ x) × (x ≤ high)
-unfolding outside
-inside low high x h =
-    ⊎-elim
-    (λ (a : low ≤ x).
-    ⊎-elim
-    (λ (b : x ≤ high). (a, b))
-    (λ (b : high < x). absurd (true≢false (sym (rw (le-ltb x low a, lt-ltb high x b)) ∙ h)))
-    (le-or-lt x high))
-    (λ (a : x < low). absurd (true≢false (sym (rw (lt-ltb x low a)) ∙ h)))
-    (le-or-lt low x)
-
-pub not-outside : (low high x : ℕ) → low ≤ x → x ≤ high → outside low high x ≡ false
-unfolding outside
-not-outside low high x a b = rw (le-ltb x low a, le-ltb high x b)
-
 -- Period 1 to 4,096. Run-time 1 to the period.
 pub record TaskFits (t : Task) : Type 0 where
   pub period-from : 1 ≤ t .period
@@ -88,44 +39,28 @@ pub record KeepsBounds (l : TaskList) (supply : ℕ) : Type 0 where
   pub memory-within : memorySum (l .tasks) (l .count) ≤ supply
   pub cycle-within : cycleOf l ≤ 4096
 
--- Where a test refuses or goes on, and nothing is found, the test failed; and so back.
-passed : (b : Bool) (n t : ℕ) (f : Finding) → choose b (refusal (suc n) t) f .number ≡ 0 → (b ≡ false) × (f .number ≡ 0)
-unfolding refusal choose
-passed true n t f z = absurd (omega arith)
-passed false n t f z = (refl, z)
-
-goes-on : (b : Bool) (n t : ℕ) (f : Finding) → b ≡ false → f .number ≡ 0 → choose b (refusal (suc n) t) f .number ≡ 0
-goes-on b n t f e z = ap (λ (x : Finding). x .number) (choose-no b (refusal (suc n) t) f e) ∙ z
-
-none-is-none : none .number ≡ 0
-unfolding none refusal
-none-is-none = refl
-
 of-count-none : (n : ℕ) → (ofCount n .number ≡ 0) ↔ ((1 ≤ n) × (n ≤ 16))
 unfolding ofCount
 of-count-none n = (
   λ z.
-      let a = passed (eqb n 0) 0 0 (choose (ltb 16 n) (refusal 2 0) none) z in
-      let b = passed (ltb 16 n) 1 0 none (a .1) in
+      let a = passed-if (eqb n 0) 0 0 _ .0 z in
+      let b = passed-if (ltb 16 n) 1 0 none .0 (a .1) in
       (pos-of-ne-zero (eqb-false n 0 (a .0)), ltb-false 16 n (b .0)),
-  λ h. goes-on (eqb n 0) 0 0 (choose (ltb 16 n) (refusal 2 0) none) (ne-eqb n 0 (λ e. omega arith)) (goes-on (ltb 16 n) 1 0 none (le-ltb 16 n (h .1)) none-is-none),
+  λ h. passed-if (eqb n 0) 0 0 _ .1 (ne-eqb n 0 (λ e. omega arith), passed-if (ltb 16 n) 1 0 none .1 (le-ltb 16 n (h .1), none-number)),
 )
 
 of-task-none : (ts : List Task) (i : ℕ) → (ofTask ts i .number ≡ 0) ↔ TaskFits (taskAt ts i)
 unfolding ofTask ofNumbers
 of-task-none ts i = (
   λ z.
-      let a = passed (outside 1 4096 p) 2 (suc i) (choose (outside 1 p r) (refusal 4 (suc i)) none) z in
-      let b = passed (outside 1 p r) 3 (suc i) none (a .1) in
-      record {
-        period-from = inside 1 4096 p (a .0) .0;
-        period-to = inside 1 4096 p (a .0) .1;
-        runtime-from = inside 1 p r (b .0) .0;
-        runtime-to = inside 1 p r (b .0) .1;
-      },
+      let a = passed-if (not (within 1 4096 p)) 2 (suc i) _ .0 z in
+      let b = passed-if (not (within 1 p r)) 3 (suc i) none .0 (a .1) in
+      let period = within-tells 1 4096 p (not-false _ (a .0)) in
+      let runtime = within-tells 1 p r (not-false _ (b .0)) in
+      record { period-from = period .0; period-to = period .1; runtime-from = runtime .0; runtime-to = runtime .1 },
   λ f.
-      goes-on (outside 1 4096 p) 2 (suc i) (choose (outside 1 p r) (refusal 4 (suc i)) none) (not-outside 1 4096 p (f .period-from) (f .period-to))
-      (goes-on (outside 1 p r) 3 (suc i) none (not-outside 1 p r (f .runtime-from) (f .runtime-to)) none-is-none),
+      passed-if (not (within 1 4096 p)) 2 (suc i) _ .1
+      (ap not (is-within 1 4096 p (f .period-from) (f .period-to)), passed-if (not (within 1 p r)) 3 (suc i) none .1 (ap not (is-within 1 p r (f .runtime-from) (f .runtime-to)), none-number)),
 )
   where
     p : ℕ
@@ -136,7 +71,7 @@ of-task-none ts i = (
 
 -- Refusals 5 and 6 come from one test each.
 pub one-test-none : (a b n t : ℕ) → (choose (ltb a b) (refusal (suc n) t) none .number ≡ 0) ↔ (b ≤ a)
-one-test-none a b n t = (λ z. ltb-false a b (passed (ltb a b) n t none z .0), λ h. goes-on (ltb a b) n t none (le-ltb a b h) none-is-none)
+one-test-none a b n t = (λ z. ltb-false a b (passed-if (ltb a b) n t none .0 z .0), λ h. passed-if (ltb a b) n t none .1 (le-ltb a b h, none-number))
 
 -- ---- the running multiple
 module _ (ts : List Task) where
@@ -285,25 +220,29 @@ kept-tells l supply cycle jobs e =
     absurd (omega arith))
     (eq-or-ne (found l supply .number) 0)
 
--- ---- the numbers of refusal here are 1 to 6
-abbrev pub UpTo6 : Finding → Type 0
-UpTo6 f = f .number ≤ 6
+-- ---- the numbers of refusal here are 1 to 6, with margin 0
+abbrev pub UpTo6 : Answer → Type 0
+UpTo6 f = (f .number ≤ 6) × (refusal (f .number) (f .task) ≡ f)
 
-first-to-6 : (find : ℕ → Finding) → ((i : ℕ) → UpTo6 (find i)) → (n : ℕ) → UpTo6 (firstFound find n)
-unfolding firstFound _orElse_ none refusal
-first-to-6 find h zero = omega arith
+plain-to-6 : (n t : ℕ) → n ≤ 6 → UpTo6 (refusal n t)
+unfolding refusal
+plain-to-6 n t l = (l, refl)
+
+first-to-6 : (find : ℕ → Answer) → ((i : ℕ) → UpTo6 (find i)) → (n : ℕ) → UpTo6 (firstFound find n)
+unfolding firstFound _orElse_ none
+first-to-6 find h zero = plain-to-6 0 0 (omega arith)
 first-to-6 find h (suc n) = choose-either UpTo6 _ _ _ (h n) (first-to-6 find h n)
 
 pub found-most : (l : TaskList) (supply : ℕ) → UpTo6 (found l supply)
-unfolding found _orElse_ ofCount ofTask ofNumbers ofMemory ofCycle none refusal
+unfolding found _orElse_ ofCount ofTask ofNumbers ofMemory ofCycle none
 found-most l supply =
     choose-either UpTo6 _ _ _
     (choose-either UpTo6 _ _ _
     (choose-either UpTo6 _ _ _
-    (first-to-6 _ (λ i. choose-either UpTo6 _ _ _ (omega arith) (omega arith)) (l .count))
-    (first-to-6 _ (λ i. choose-either UpTo6 _ _ _ (omega arith) (omega arith)) (l .count)))
-    (first-to-6 _ (λ i. choose-either UpTo6 _ _ _ (omega arith) (choose-either UpTo6 _ _ _ (omega arith) (omega arith))) (l .count)))
-    (choose-either UpTo6 _ _ _ (omega arith) (choose-either UpTo6 _ _ _ (omega arith) (omega arith)))
+    (first-to-6 _ (λ i. choose-either UpTo6 _ _ _ (plain-to-6 _ _ (omega arith)) (plain-to-6 _ _ (omega arith))) (l .count))
+    (first-to-6 _ (λ i. choose-either UpTo6 _ _ _ (plain-to-6 _ _ (omega arith)) (plain-to-6 _ _ (omega arith))) (l .count)))
+    (first-to-6 _ (λ i. choose-either UpTo6 _ _ _ (plain-to-6 _ _ (omega arith)) (choose-either UpTo6 _ _ _ (plain-to-6 _ _ (omega arith)) (plain-to-6 _ _ (omega arith)))) (l .count)))
+    (choose-either UpTo6 _ _ _ (plain-to-6 _ _ (omega arith)) (choose-either UpTo6 _ _ _ (plain-to-6 _ _ (omega arith)) (plain-to-6 _ _ (omega arith))))
 
 -- A broken bound is answered by what is found.
 pub record BrokenAs (l : TaskList) (supply number task : ℕ) : Type 0 where
@@ -324,4 +263,4 @@ broken-tells l supply number task e =
     (eq-or-ne (found l supply .number) 0)
 
 pub broken-number : (l : TaskList) (supply number task : ℕ) → boundsOf l supply ≡ Broken number task → number ≤ 6
-broken-number l supply number task e = omega (arith, broken-tells l supply number task e .number-is, found-most l supply)
+broken-number l supply number task e = omega (arith, broken-tells l supply number task e .number-is, found-most l supply .0)

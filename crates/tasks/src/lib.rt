@@ -1,10 +1,12 @@
 // The task list by value, its cycle by Euclid's rule, and what bounds it: refusals 1 to 6.
 ghost use mathlib.Core.Path.{_≡_};
 ghost use Prim.Native.Nat.{ℕ, _+_, _≤_, _<_};
+ghost use Rattle.basis.specs.Choose.{within};
+ghost use Rattle.basis.specs.Answer.{firstFound};
 ghost use Rattle.tasks.specs.List.{dueOf, keyOf, runtimeOf};
 ghost use Rattle.tasks.specs.Euclid.{gcdOf, lcmOf};
-ghost use Rattle.tasks.specs.Bounds.{firstFound, outside, ofNumbers, ofTask, ofMemory, jobSum, boundsOf};
-ghost use Rattle.tasks.specs.Shapes.{Finds, Multiplies};
+ghost use Rattle.tasks.specs.Bounds.{ofNumbers, ofTask, ofMemory, jobSum, boundsOf};
+ghost use Rattle.tasks.specs.Shapes.{asAnswer, Finds, Multiplies};
 ghost use Rattle.tasks.specs.Kept.{AllFit};
 
 // Period and run-time in slices, sample memory in words.
@@ -60,26 +62,29 @@ fn gcd(a: u32, b: u32) -> u32
     if b == 0 { a } else { gcd(b, a % b) }
 }
 
-fn lcm(a: u32, b: u32) -> u32
-    requires { ⌜ (0 < a) × (a ≤ 4096) × (b ≤ 4096) ⌝ }
+// The least common multiple, which rests on it; 0 if one of the numbers is. In 64 bits, where the product cannot wrap.
+pub fn lcm(a: u32, b: u32) -> u64
     ensures { λ r. ⌜ r ≡ lcmOf a b ⌝ }
 {
-    a / gcd(a, b) * b
+    if a == 0 {
+        return 0;
+    }
+    (a / gcd(a, b)) as u64 * b as u64
 }
 
-fn is_outside(low: u32, high: u32, x: u32) -> bool
-    ensures { λ r. ⌜ r ≡ outside low high x ⌝ }
+fn is_within(low: u32, high: u32, x: u32) -> bool
+    ensures { λ r. ⌜ r ≡ within low high x ⌝ }
 {
-    if x < low { true } else { high < x }
+    if x < low { false } else { x <= high }
 }
 
 fn of_task(period: u32, runtime: u32, task: usize) -> Finding
-    ensures { λ r. ⌜ r ≡ ofNumbers period runtime task ⌝ }
+    ensures { λ r. ⌜ asAnswer r ≡ ofNumbers period runtime task ⌝ }
 {
-    if is_outside(1, 4096, period) {
+    if !is_within(1, 4096, period) {
         return Finding { number: 3, task };
     }
-    if is_outside(1, period, runtime) {
+    if !is_within(1, period, runtime) {
         return Finding { number: 4, task };
     }
     Finding { number: 0, task: 0 }
@@ -157,7 +162,7 @@ fn of_cycle(list: TaskList) -> Running
                 },
             };
         }
-        multiple = next;
+        multiple = next as u32;
         i += 1;
     }
     Running {

@@ -2,7 +2,7 @@
 ghost use mathlib.Core.Path.{_≡_};
 ghost use Prim.Native.Nat.{_<_};
 ghost use Rattle.basis.specs.Slices.{ceil};
-ghost use Rattle.units.specs.Conversion.{paper, runtimeSlices, periodSlices};
+ghost use Rattle.units.specs.Conversion.{runtimeSlices, periodSlices};
 
 // A conversion's answer: so many slices, or refusal 17.
 pub enum Slices {
@@ -19,7 +19,7 @@ fn rounded_up(micros: u32, length: u32) -> u32
 }
 
 pub fn runtime_slices(micros: u32, slice: u32) -> Slices
-    ensures { λ r. ⌜ paper r ≡ runtimeSlices micros slice ⌝ }
+    ensures { λ r. ⌜ r ≡ runtimeSlices micros slice ⌝ }
 {
     if 0 < slice {
         Slices::Count(rounded_up(micros, slice))
@@ -29,7 +29,7 @@ pub fn runtime_slices(micros: u32, slice: u32) -> Slices
 }
 
 pub fn period_slices(micros: u32, slice: u32) -> Slices
-    ensures { λ r. ⌜ paper r ≡ periodSlices micros slice ⌝ }
+    ensures { λ r. ⌜ r ≡ periodSlices micros slice ⌝ }
 {
     if slice == 0 {
         Slices::Refused

@@ -1,142 +1,32 @@
 -- What judging and building answer at each way out, as laws over plain values.
-use mathlib.Core.Path.{_≡_, refl, sym, ap, ap₂, _∙_}
+use mathlib.Core.Path.{_≡_, refl, sym, ap, _∙_}
 use mathlib.Core.List.{List}
 use mathlib.Core.Logic.{⊎-elim}
-use Prim.Native.Nat.{ℕ, suc, _+_, _-_, _≤_, _<_}
+use Prim.Native.Nat.{ℕ, suc, _≤_, _<_}
 use native.Mathlib.Omega.{arith}
-use native.Mathlib.Numerals.{add-one}
-use lib.IntN.{ℤ, pos, subℕ}
 use lib.ListN.{length}
-use borrow.Author.Tests.{eq-eqb, ne-eqb, lt-ltb, le-ltb}
-use Rattle.basis.specs.Bytes.{at, overwrite, overwrite-same, overwrite-at}
-use Rattle.basis.specs.Choose.{choose-yes, choose-no, le-or-lt, eq-or-ne}
-use Rattle.plan.specs.Plan.{Plan, Sound, release, deadline, keyIn, table, OnTime, OnTimeUpTo}
-use Rattle.plan.specs.Order.{behind-not-before}
+use Rattle.basis.specs.Bytes.{at, overwrite, overwrite-at, overwrite-same}
+use Rattle.basis.specs.Choose.{choose-yes, choose-no, eq-or-ne}
+use Rattle.plan.specs.Plan.{table}
 use Rattle.tasks.specs.declared.TaskList.{TaskList}
-use Rattle.tasks.specs.declared.Bounds.the-variants.{Kept, Broken}
 use Rattle.tasks.specs.List.{planOf}
-use Rattle.tasks.specs.Bounds.{boundsOf, cycleOf}
-use Rattle.tasks.specs.Kept.{kept-tells, plan-monotonic, period-within-cycle}
-use Rattle.verdict.specs.declared.Late.{Late}
+use Rattle.tasks.specs.Bounds.{cycleOf, boundsOf}
+use Rattle.tasks.specs.Kept.{kept-tells}
+use Rattle.verdict.specs.Lateness.{lateness}
+use Rattle.verdict.specs.Shapes.{Bounded}
+use Rattle.verdict.specs.Walk.{Shows, Shown}
+use lib.IntN.{ℤ, pos, subℕ}
+use borrow.Author.Tests.{eq-eqb, ne-eqb, lt-ltb, le-ltb}
+use Rattle.tasks.specs.declared.Bounds.the-variants.{Kept, Broken}
 use Rattle.verdict.specs.declared.Verdict.{Verdict}
 use Rattle.verdict.specs.declared.Verdict.the-variants.{Accepted, Refused}
-use Rattle.verdict.specs.Lateness.{lateness}
 use Rattle.verdict.specs.Margin.{margin, tightest}
 use Rattle.verdict.specs.Verdict.{judged, verdictFrom, verdictOf}
 use Rattle.verdict.specs.Table.{fitted, tabled, Built}
-use Rattle.verdict.specs.Deadlines.{nothing-late, late-tells, missed-lacks, missing-is}
-use Rattle.verdict.specs.Ends.{end-is-first, end-within}
-use Rattle.verdict.specs.Tightest.{Tightest, tightest-law, tightest-only, not-tighter}
-use Rattle.verdict.specs.Shapes.{Bounded, marginAt, TightestAt}
-use Rattle.verdict.specs.Walk.{Shows, Shown, Walked}
-use Rattle.verdict.specs.Settling.{Concluded, Settled}
+use Rattle.verdict.specs.Settling.{Settled}
 
 abbrev pub shown : (l : TaskList) (cycle : ℕ) → Bounded l → cycle ≡ cycleOf l → (order periods dues runtimes : List ℕ) → Shows (planOf l) order periods dues runtimes → Shown (l .count) cycle order periods dues runtimes
 shown l cycle B C order periods dues runtimes W = record { list = l; bounded = B; count-is = refl; cycle-is = C; shows = W }
-
--- ---- the verdict of a list that keeps all bounds
-module _ (n cycle : ℕ) (order periods dues runtimes : List ℕ) (S : Shown n cycle order periods dues runtimes) (ends table₀ table₁ : List ℕ) (late : Late)
-    (L : Walked (planOf (S .list)) cycle order table₀ ends table₁ late) where
-  abbrev l : TaskList
-  l = S .list
-
-  abbrev P : Plan
-  P = planOf l
-
-  abbrev B : Bounded l
-  B = S .bounded
-
-  abbrev W : Shows P order periods dues runtimes
-  W = S .shows
-
-  sound : Sound P
-  sound = plan-monotonic l (B .supply) (B .keeps) .sound
-
-  task-is : late .task ≡ lateness P cycle .task
-  task-is = ap (λ (x : Late). x .task) (L .late-is)
-
-  pub short-within : (late .task ≡ 0 → ⊥) → late .short ≤ 4096
-  unfolding planOf
-  short-within nz =
-      let task : lateness P cycle .task ≡ suc (late .task - 1) = sym task-is ∙ omega arith in
-      let m = late-tells P sound cycle (late .task - 1) task in
-      let lacks = missed-lacks P (m .slice) (late .task - 1) (m .missed) in
-      let fits = B .keeps .fits (late .task - 1) (lacks .0) in
-      omega (arith, ap (λ (x : Late). x .short) (L .late-is), m .lacks, missing-is P (m .slice) (late .task - 1) (lacks .1) .1, fits .runtime-to, fits .period-to)
-
-  pub concluded-late : (jobs : ℕ) (z : ℤ) → (late .task ≡ 0 → ⊥) → z ≡ subℕ 0 (late .short) → Concluded l cycle jobs table₀ table₁ (Refused 7 (late .task) z)
-  unfolding judged
-  concluded-late jobs z nz q = record {
-    answer = rw (← L .late-is, q) (sym (choose-no _ _ _ (ne-eqb (late .task) 0 nz)));
-    entries = λ none. absurd (nz (task-is ∙ none));
-  }
-
-  module _ (none : late .task ≡ 0) where
-    below : (k : ℕ) → k < P .count → at order k < P .count
-    below = W .ranked 0 .below
-
-    due-in-cycle : (i : ℕ) → i < P .count → P .due i ≤ cycle
-    unfolding planOf
-    due-in-cycle i li = omega (arith, S .cycle-is, period-within-cycle l (B .supply) (B .keeps) i li)
-
-    count-is : n ≡ P .count
-    unfolding planOf
-    count-is = S .count-is
-
-    pub ends-by-dues : (k : ℕ) → k < n → at ends k ≤ at dues k
-    ends-by-dues k small = let lk : k < P .count = omega (arith, count-is) in omega (arith, L .end-is none k lk, end-within P (at order k) cycle, W .due-is k lk)
-
-    first-on-time : (i : ℕ) → i < P .count → OnTime P (P .runtime) i 0
-    unfolding OnTimeUpTo deadline release
-    first-on-time i li = nothing-late P sound cycle .0 (sym task-is ∙ none) i 0 li (omega (arith, due-in-cycle i li))
-
-    margin-is : (k : ℕ) → k < P .count → marginAt dues ends k ≡ margin P (at order k)
-    unfolding marginAt margin
-    margin-is k lk =
-        ap₂ (λ (x y : ℕ). x - y) (W .due-is k lk)
-        (L .end-is none k lk ∙ end-is-first P sound (at order k) cycle (below k lk) (first-on-time (at order k) (below k lk)) (due-in-cycle (at order k) (below k lk)))
-
-    module _ (best : ℕ) (T₀ : TightestAt (marginAt dues ends) n best) where
-      T : TightestAt (marginAt dues ends) (P .count) best
-      T = rw count-is at T₀
-
-      -- a task's number is small
-      pub task-small : at order best < 16
-      unfolding planOf
-      task-small = omega (arith, below best (T .below), B .keeps .few)
-
-      -- the first place with the smallest margin is the tightest task's
-      is-tightest : Tightest P (P .count) (at order best)
-      is-tightest = record {
-        is-below = below best (T .below);
-        none-tighter = λ j lj.
-            let p = W .ranked 0 .places j lj in
-            let mine = margin-is best (T .below) in
-            let other : marginAt dues ends (p .place) ≡ margin P j = margin-is (p .place) (p .below) ∙ ap (margin P) (p .is) in
-            not-tighter P j (at order best) (omega (arith, T .smallest (p .place) (p .below)))
-            (λ same. rw (← p .is) (behind-not-before (keyIn P 0) (P .count) order (W .ranked 0) best (p .place) (not-earlier (p .place) (omega arith)) (p .below)));
-      }
-        where
-          not-earlier : (k : ℕ) → marginAt dues ends best ≡ marginAt dues ends k → best ≤ k
-          not-earlier k same = ⊎-elim (λ (a : best ≤ k). a) (λ (b : k < best). absurd (omega (arith, T .first k b))) (le-or-lt best k)
-
-      best-is : at order best ≡ tightest P (P .count)
-      unfolding planOf
-      best-is = tightest-only P (at order best) (tightest P (P .count)) is-tightest (tightest-law P (P .count) (B .keeps .some) (omega arith))
-
-      pub margin-within : at dues best - at ends best ≤ 4096
-      unfolding planOf
-      margin-within = omega (arith, W .due-is best (T .below), B .keeps .fits (at order best) (below best (T .below)) .period-to)
-
-      pub concluded-accepted : (jobs : ℕ) (z : ℤ) → z ≡ pos (at dues best - at ends best) → Concluded l cycle jobs table₀ table₁ (Accepted cycle jobs (at order best + 1) z)
-      unfolding judged marginAt
-      concluded-accepted jobs z q = record {
-        answer =
-            rw (← L .late-is, add-one, q)
-            (ap₂ (λ (i m : ℕ). Accepted cycle jobs (suc i) (pos m)) best-is (margin-is best (T .below) ∙ ap (margin P) best-is)
-            ∙ sym (choose-yes _ _ _ (eq-eqb (late .task) 0 none)));
-        entries = λ _. L .entries-are none;
-      }
 
 -- ---- the table of a list that keeps all bounds
 module _ (l : TaskList) (cycle jobs : ℕ) (r : Verdict) (A : r ≡ judged (planOf l) cycle jobs (lateness (planOf l) cycle)) where

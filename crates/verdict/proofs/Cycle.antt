@@ -1,5 +1,5 @@
--- The walk over a cycle of a list that keeps its bounds, event by event, as laws over plain values.
-use mathlib.Core.Path.{_≡_, refl, sym, ap, subst, _∙_}
+-- The walk over a cycle of a list that keeps its bounds, event by event, and the verdict that it comes to, as laws over plain values.
+use mathlib.Core.Path.{_≡_, refl, sym, ap, subst, _∙_, ap₂}
 use mathlib.Core.List.{List}
 use mathlib.Core.Logic.{inl, inr, ⊎-elim}
 use Prim.Native.Nat.{ℕ, suc, _+_, _-_, _/_, _≤_, _<_, _∣_}
@@ -8,8 +8,8 @@ use native.Mathlib.Nat.{div-lt-iff-lt-mul, div-mul-cancel, mul-le-mul-right}
 use lib.ListN.{length, replicate, length-replicate}
 use lib.Seq.{ext-getD}
 use Rattle.basis.specs.Bytes.{at, overwrite, overwrite-length, overwritten-length, overwrite-at, overwrite-kept, zeros}
-use Rattle.basis.specs.Choose.{le-or-lt}
-use Rattle.plan.specs.Plan.{Plan, Sound, Monotonic, release, job, age, keyIn, table}
+use Rattle.basis.specs.Choose.{le-or-lt, choose-yes, choose-no}
+use Rattle.plan.specs.Plan.{Plan, Sound, Monotonic, release, job, age, keyIn, table, deadline, OnTime, OnTimeUpTo}
 use Rattle.plan.specs.Rank.{not-before-key}
 use Rattle.plan.specs.Order.{behind-not-before}
 use Rattle.plan.specs.Run.{release-age, had-first, lacks-open}
@@ -17,19 +17,27 @@ use Rattle.plan.specs.Events.{nextEvent, event-open, event-later, event-by-rele
 use Rattle.tasks.specs.declared.TaskList.{TaskList}
 use Rattle.tasks.specs.List.{planOf}
 use Rattle.tasks.specs.Bounds.{cycleOf}
-use Rattle.tasks.specs.Kept.{plan-monotonic, period-divides-cycle}
+use Rattle.tasks.specs.Kept.{plan-monotonic, period-divides-cycle, period-within-cycle}
 use Rattle.verdict.specs.declared.Late.{Late}
 use Rattle.verdict.specs.declared.walk.Turned.{Turned}
 use Rattle.verdict.specs.Lateness.{lateness}
-use Rattle.verdict.specs.Deadlines.{late-stays, none-short}
-use Rattle.verdict.specs.Ends.{endBy, end-none}
-use Rattle.verdict.specs.Shapes.{Bounded, HandedOut, Fits, missingOf, eventThen, LateIn, TurnedAll}
-use Rattle.verdict.specs.Walk.{Shows, Shown, Holds, Walked, entry-turn, late-is, holds-next}
+use Rattle.verdict.specs.Deadlines.{late-stays, nothing-late, late-tells, missed-lacks, missing-is}
+use Rattle.verdict.specs.Ends.{endBy, end-none, end-is-first, end-within}
+use Rattle.verdict.specs.Shapes.{Bounded, HandedOut, Fits, missingOf, eventThen, noneLate, OneLate, AllTurned, TurnedAll, marginAt, TightestAt}
+use Rattle.verdict.specs.Walk.{Shows, Shown, Holds, Walked, entry-turn, none-late-then, one-late-then, holds-next}
+use native.Mathlib.Numerals.{add-one}
+use lib.IntN.{ℤ, pos, subℕ}
+use borrow.Author.Tests.{eq-eqb, ne-eqb}
+use Rattle.verdict.specs.declared.Verdict.the-variants.{Accepted, Refused}
+use Rattle.verdict.specs.Margin.{margin, tightest}
+use Rattle.verdict.specs.Verdict.{judged}
+use Rattle.verdict.specs.Tightest.{Tightest, tightest-law, tightest-only, not-tighter}
+use Rattle.verdict.specs.Settling.{Concluded}
 
 -- Before slice t, with the next event of all at `next`, nothing is late, and the entries so far are the table's.
 pub record At (P : Plan) (order table₀ : List ℕ) (cycle t next : ℕ) (lacks′ releases events ends table₁ : List ℕ) : Type 0 where
   pub holds : Holds P t order lacks′ releases events ends
-  pub on-time : lateness P t .task ≡ 0
+  pub on-time : noneLate ≡ lateness P t
   pub ahead : t < next
   pub quiet : (k : ℕ) → k < P .count → next ≤ at events k
   pub within : t ≤ cycle
@@ -156,6 +164,9 @@ module _ (n cycle : ℕ) (order periods dues runtimes : List ℕ) (S : Shown n c
           due-some = omega (arith, W .due-is k lk, sound .due-pos i li);
         }
 
+    on-time-here : lateness P t .task ≡ 0
+    on-time-here = sym (ap (λ (x : Late). x .task) (A .on-time))
+
     s : ℕ
     s = next - suc t
 
@@ -167,41 +178,33 @@ module _ (n cycle : ℕ) (order periods dues runtimes : List ℕ) (S : Shown n c
     unfolding s
     as-many = omega (arith, A .ahead)
 
-    module _ (lacks₁ ends₁ table₂ : List ℕ) (G₀ : HandedOut order dues lacks₀ ends table₁ n t next lacks₁ ends₁ table₂)
-        (releases₂ events₂ lacks₂ : List ℕ) (r : Turned) (T₀ : TurnedAll order periods dues runtimes releases events lacks₁ n next releases₂ events₂ lacks₂ r) where
+    module _ (lacks₁ ends₁ table₂ : List ℕ) (G₀ : HandedOut order dues lacks₀ ends table₁ n t next lacks₁ ends₁ table₂) (releases₂ events₂ lacks₂ : List ℕ) (r : Turned) where
       G : HandedOut order dues lacks₀ ends table₁ (P .count) t next lacks₁ ends₁ table₂
       G = rw count-is at G₀
 
-      T : TurnedAll order periods dues runtimes releases events lacks₁ (P .count) next releases₂ events₂ lacks₂ r
-      T = rw count-is at T₀
-
-      late-so : r .late ≡ lateness P next
-      late-so = late-is P sound order periods dues runtimes W t s lacks₀ releases events ends (A .holds) (A .on-time) next is-next (A .quiet) lacks₁ ends₁ (rw as-many at (G .lacks-are)) (rw as-many at (G .ends-are)) (r .late) (T .late-is)
-
       -- The first that is late ends the walk.
-      pub stops : (r .late .task ≡ 0 → ⊥) → Walked P cycle order table₀ ends₁ table₂ (r .late)
-      stops nz =
+      stopped : OneLate order (λ k. missingOf (at events k) (at lacks₁ k) next) n (r .late) → (r .late .task ≡ 0 → ⊥) → Walked P cycle order table₀ ends₁ table₂ (r .late)
+      stopped L nz =
           let e : next + (cycle - next) ≡ cycle = omega (arith, A .next-within lt) in
+          let so = one-late-then P sound order periods dues runtimes W t s lacks₀ releases events ends (A .holds) on-time-here next is-next (A .quiet) lacks₁ ends₁ (rw as-many at (G .lacks-are)) (rw as-many at (G .ends-are)) (r .late) (rw count-is at L) in
           record {
-            late-is = late-so ∙ sym (late-stays P next (cycle - next) (λ z. nz (ap (λ (x : Late). x .task) late-so ∙ z))) ∙ ap (lateness P) e;
+            late-is = so ∙ sym (late-stays P next (cycle - next) (λ z. nz (ap (λ (x : Late). x .task) so ∙ z))) ∙ ap (lateness P) e;
             end-is = λ z. absurd (nz z);
             entries-are = λ z. absurd (nz z);
           }
 
-      none-late : r .late .task ≡ 0 → LateIn order (λ k. missingOf (at events k) (at lacks₁ k) next) (P .count) (r .late) → (k : ℕ) → k < P .count → missingOf (at events k) (at lacks₁ k) next ≡ 0
-      unfolding LateIn
-      none-late z (inl L) = L .none .none
-      none-late z (inr L) = absurd (omega (arith, L .first .is))
+      module _ (T₀ : AllTurned periods dues runtimes releases events lacks₁ n next releases₂ events₂ lacks₂ r) where
+        T : AllTurned periods dues runtimes releases events lacks₁ (P .count) next releases₂ events₂ lacks₂ r
+        T = rw count-is at T₀
 
-      module _ (z : r .late .task ≡ 0) where
         then-holds : Holds P next order lacks₂ releases₂ events₂ ends₁
         then-holds =
-            holds-next P sound order periods dues runtimes W t s lacks₀ releases events ends (A .holds) (A .on-time) next is-next (A .quiet) lacks₁ ends₁ (rw as-many at (G .lacks-are)) (rw as-many at (G .ends-are)) (none-late z (T .late-is))
-            releases₂ events₂ lacks₂ (T .events-are z) (T .releases-are z) (T .lacks-are z)
+            holds-next P sound order periods dues runtimes W t s lacks₀ releases events ends (A .holds) on-time-here next is-next (A .quiet) lacks₁ ends₁ (rw as-many at (G .lacks-are)) (rw as-many at (G .ends-are)) (T .none-late)
+            releases₂ events₂ lacks₂ (T .events-are) (T .releases-are) (T .lacks-are)
 
         event-then : (k : ℕ) → k < P .count → eventThen periods dues runtimes releases events lacks₁ next k ≡ nextEvent P (at order k) next
         event-then k lk =
-            sym (ap (λ (x : List ℕ). at x k) (T .events-are z) ∙ overwrite-at _ events 0 (P .count) k lk (omega (arith, A .holds .events-room)))
+            sym (ap (λ (x : List ℕ). at x k) (T .events-are) ∙ overwrite-at _ events 0 (P .count) k lk (omega (arith, A .holds .events-room)))
             ∙ then-holds .event-is k lk
 
         -- the table's entries up to the next event
@@ -221,7 +224,7 @@ module _ (n cycle : ℕ) (order periods dues runtimes : List ℕ) (S : Shown n c
             (λ (here : x < next).
             let q : t + (x - t) ≡ x = omega arith in
             sym (ap (at table₂) q)
-            ∙ goes-to-one order (at lacks₀) (P .count) (x - t) _ _ (w .entries (x - t) (omega arith)) (entry-turn P sound order periods dues runtimes W t s lacks₀ releases events ends (A .holds) (A .on-time) next is-next (A .quiet) (x - t) (omega (arith, is-next)))
+            ∙ goes-to-one order (at lacks₀) (P .count) (x - t) _ _ (w .entries (x - t) (omega arith)) (entry-turn P sound order periods dues runtimes W t s lacks₀ releases events ends (A .holds) on-time-here next is-next (A .quiet) (x - t) (omega (arith, is-next)))
             ∙ ap (table P) q
             ∙ sym (overwrite-at (table P) table₀ 0 next x here (omega (arith, A .next-within lt))))
             (le-or-lt next x))
@@ -229,17 +232,25 @@ module _ (n cycle : ℕ) (order periods dues runtimes : List ℕ) (S : Shown n c
             w .elsewhere x (inl done) ∙ ap (λ (y : List ℕ). at y x) e ∙ overwrite-at (table P) table₀ 0 t x done (omega (arith, A .within)) ∙ sym (overwrite-at (table P) table₀ 0 next x (omega (arith, A .ahead)) (omega (arith, A .within))))
             (le-or-lt t x))
 
-        pub goes-on : ((x : ℕ) → at table₀ x ≡ 0) → At P order table₀ cycle next (r .next) lacks₂ releases₂ events₂ ends₁ table₂
+        went-on : ((x : ℕ) → at table₀ x ≡ 0) → At P order table₀ cycle next (r .next) lacks₂ releases₂ events₂ ends₁ table₂
         unfolding planOf
-        goes-on blank = record {
+        went-on blank = record {
           holds = then-holds;
-          on-time = sym (ap (λ (x : Late). x .task) late-so) ∙ z;
-          ahead = T .next-is z .greatest (suc next) (omega (arith, A .next-within lt, C, B .keeps .cycle-within)) (λ k lk. omega (arith, event-then k lk, event-later P sound (at order k) (below k lk) next));
-          quiet = λ k lk. omega (arith, T .next-is z .no-later k lk, event-then k lk, then-holds .event-is k lk);
+          on-time = none-late-then P sound order periods dues runtimes W t s lacks₀ releases events ends (A .holds) on-time-here next is-next (A .quiet) lacks₁ ends₁ (rw as-many at (G .lacks-are)) (rw as-many at (G .ends-are)) (T .none-late);
+          ahead = T .next-is .greatest (suc next) (omega (arith, A .next-within lt, C, B .keeps .cycle-within)) (λ k lk. omega (arith, event-then k lk, event-later P sound (at order k) (below k lk) next));
+          quiet = λ k lk. omega (arith, T .next-is .no-later k lk, event-then k lk, then-holds .event-is k lk);
           within = A .next-within lt;
-          next-within = λ q. omega (arith, T .next-is z .no-later 0 some, event-then 0 some, event-in-cycle (at order 0) next (below 0 some) q);
+          next-within = λ q. omega (arith, T .next-is .no-later 0 some, event-then 0 some, event-in-cycle (at order 0) next (below 0 some) q);
           entries-are = entries-then blank;
         }
+
+      pub stops : TurnedAll order periods dues runtimes releases events lacks₁ n next releases₂ events₂ lacks₂ r → (r .late .task ≡ 0 → ⊥) → Walked P cycle order table₀ ends₁ table₂ (r .late)
+      stops (inl L) nz = stopped L nz
+      stops (inr T) nz = absurd (nz (ap (λ (x : Late). x .task) (T .late-is)))
+
+      pub goes-on : TurnedAll order periods dues runtimes releases events lacks₁ n next releases₂ events₂ lacks₂ r → r .late .task ≡ 0 → ((x : ℕ) → at table₀ x ≡ 0) → At P order table₀ cycle next (r .next) lacks₂ releases₂ events₂ ends₁ table₂
+      goes-on (inl L) z blank = absurd (omega (arith, L .first .is))
+      goes-on (inr T) z blank = went-on T blank
 
   -- ---- at the cycle's end nothing was late
   pub ends-well : (table₀ : List ℕ) (t next : ℕ) (lacks₀ releases events ends table₁ : List ℕ) → At P order table₀ cycle t next lacks₀ releases events ends table₁ → cycle ≤ t
@@ -247,7 +258,82 @@ module _ (n cycle : ℕ) (order periods dues runtimes : List ℕ) (S : Shown n c
   ends-well table₀ t next lacks₀ releases events ends table₁ A q =
       let e : t ≡ cycle = omega (arith, A .within) in
       record {
-        late-is = (λ j. record { task = sym (A .on-time) j; short = sym (none-short P t (A .on-time)) j }) ∙ ap (lateness P) e;
+        late-is = A .on-time ∙ ap (lateness P) e;
         end-is = λ _ k lk. A .holds .end-is k lk ∙ ap (λ (x : ℕ). endBy P x (at order k)) e;
         entries-are = λ _ room. A .entries-are room ∙ ap (λ (x : ℕ). overwrite (table P) x table₀) e;
       }
+
+  -- ---- the verdict, by what the walk came to
+  module _ (ends table₀ table₁ : List ℕ) (late : Late) (L : Walked P cycle order table₀ ends table₁ late) where
+    task-is : late .task ≡ lateness P cycle .task
+    task-is = ap (λ (x : Late). x .task) (L .late-is)
+
+    pub short-within : (late .task ≡ 0 → ⊥) → late .short ≤ 4096
+    unfolding planOf
+    short-within nz =
+        let task : lateness P cycle .task ≡ suc (late .task - 1) = sym task-is ∙ omega arith in
+        let m = late-tells P sound cycle (late .task - 1) task in
+        let lacks = missed-lacks P (m .slice) (late .task - 1) (m .missed) in
+        let fits = B .keeps .fits (late .task - 1) (lacks .0) in
+        omega (arith, ap (λ (x : Late). x .short) (L .late-is), m .lacks, missing-is P (m .slice) (late .task - 1) (lacks .1) .1, fits .runtime-to, fits .period-to)
+
+    pub concluded-late : (jobs : ℕ) (z : ℤ) → (late .task ≡ 0 → ⊥) → z ≡ subℕ 0 (late .short) → Concluded l cycle jobs table₀ table₁ (Refused 7 (late .task) z)
+    unfolding judged
+    concluded-late jobs z nz q = record {
+      answer = rw (← L .late-is, q) (sym (choose-no _ _ _ (ne-eqb (late .task) 0 nz)));
+      entries = λ none. absurd (nz (task-is ∙ none));
+    }
+
+    module _ (none : late .task ≡ 0) where
+      due-in-cycle : (i : ℕ) → i < P .count → P .due i ≤ cycle
+      unfolding planOf
+      due-in-cycle i li = omega (arith, S .cycle-is, period-within-cycle l (B .supply) (B .keeps) i li)
+
+      pub ends-by-dues : (k : ℕ) → k < n → at ends k ≤ at dues k
+      ends-by-dues k small = let lk : k < P .count = omega (arith, count-is) in omega (arith, L .end-is none k lk, end-within P (at order k) cycle, W .due-is k lk)
+
+      first-on-time : (i : ℕ) → i < P .count → OnTime P (P .runtime) i 0
+      unfolding OnTimeUpTo deadline release
+      first-on-time i li = nothing-late P sound cycle .0 (sym task-is ∙ none) i 0 li (omega (arith, due-in-cycle i li))
+
+      margin-is : (k : ℕ) → k < P .count → marginAt dues ends k ≡ margin P (at order k)
+      unfolding margin
+      margin-is k lk =
+          ap₂ (λ (x y : ℕ). x - y) (W .due-is k lk)
+          (L .end-is none k lk ∙ end-is-first P sound (at order k) cycle (below k lk) (first-on-time (at order k) (below k lk)) (due-in-cycle (at order k) (below k lk)))
+
+      module _ (best : ℕ) (F₀ : TightestAt (marginAt dues ends) n best) where
+        F : TightestAt (marginAt dues ends) (P .count) best
+        F = rw count-is at F₀
+
+        -- the first place with the smallest margin is the tightest task's
+        is-tightest : Tightest P (P .count) (at order best)
+        is-tightest = record {
+          is-below = below best (F .below);
+          none-tighter = λ j lj.
+              let p = W .ranked 0 .places j lj in
+              let mine = margin-is best (F .below) in
+              let other : marginAt dues ends (p .place) ≡ margin P j = margin-is (p .place) (p .below) ∙ ap (margin P) (p .is) in
+              not-tighter P j (at order best) (omega (arith, F .smallest (p .place) (p .below)))
+              (λ same.
+              ⊎-elim
+              (λ (a : best ≤ p .place). rw (← p .is) (behind-not-before (keyIn P 0) (P .count) order (W .ranked 0) best (p .place) a (p .below)))
+              (λ (b : p .place < best). absurd (omega (arith, F .first (p .place) b)))
+              (le-or-lt best (p .place)));
+        }
+
+        best-is : at order best ≡ tightest P (P .count)
+        best-is = tightest-only P (at order best) (tightest P (P .count)) is-tightest (tightest-law P (P .count) some (omega arith))
+
+        pub margin-within : at dues best - at ends best ≤ 4096
+        margin-within = omega (arith, W .due-is best (F .below), sound .due-within (at order best) (below best (F .below)), period-small (at order best) (below best (F .below)))
+
+        pub concluded-accepted : (jobs : ℕ) (z : ℤ) → z ≡ pos (at dues best - at ends best) → Concluded l cycle jobs table₀ table₁ (Accepted cycle jobs (at order best + 1) z)
+        unfolding judged
+        concluded-accepted jobs z q = record {
+          answer =
+              rw (← L .late-is, add-one, q)
+              (ap₂ (λ (i m : ℕ). Accepted cycle jobs (suc i) (pos m)) best-is (margin-is best (F .below) ∙ ap (margin P) best-is)
+              ∙ sym (choose-yes _ _ _ (eq-eqb (late .task) 0 none)));
+          entries = λ _. L .entries-are none;
+        }

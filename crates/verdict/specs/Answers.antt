@@ -13,12 +13,12 @@ use Rattle.tasks.specs.declared.Bounds.{Bounds}
 use Rattle.tasks.specs.declared.Bounds.the-variants.{Kept, Broken}
 use Rattle.tasks.specs.List.{planOf}
 use Rattle.tasks.specs.Bounds.{boundsOf, cycleOf, jobsOf}
-use Rattle.tasks.specs.Kept.{KeepsBounds, bounds-kept, kept-tells, broken-number, plan-monotonic}
+use Rattle.tasks.specs.Kept.{KeepsBounds, bounds-kept, kept-tells, broken-tells, broken-number, plan-monotonic}
 use Rattle.verdict.specs.declared.Verdict.{Verdict}
 use Rattle.verdict.specs.declared.Verdict.the-variants.{Accepted, Refused}
 use Rattle.verdict.specs.Lateness.{lateness}
 use Rattle.verdict.specs.Margin.{margin, tightest}
-use Rattle.verdict.specs.Verdict.{judged, verdictFrom, verdictOf, numbers}
+use Rattle.verdict.specs.Verdict.{judged, verdictFrom, verdictOf, verdictAnswer}
 use Rattle.verdict.specs.Deadlines.{EarliestMissed, nothing-late, late-tells}
 
 -- A bound is broken: refusal 1 to 6, with margin 0.
@@ -111,21 +111,9 @@ module _ (l : TaskList) (supply : ℕ) where
       (λ (h : OnTimeAll l supply (verdictOf l supply)). record { keeps = h .keeps; on-time = h .on-time; is = sym e ∙ h .is }))
       (verdict-tells l supply)
 
-  pub refused-7-tells : (task : ℕ) (signed : ℤ) → verdictOf l supply ≡ Refused 7 task signed → ForLateness l supply (Refused 7 task signed)
-  refused-7-tells task signed e =
-      ⊎-elim
-      (λ (h : ByBounds l supply (verdictOf l supply)).
-      let same : Refused 7 task signed ≡ Refused (h .number) (h .task) (pos 0) = sym e ∙ h .is in
-      let seven : 7 ≡ h .number = cc in
-      absurd (omega (arith, h .to-6)))
-      (⊎-elim
-      (λ (h : ForLateness l supply (verdictOf l supply)). record { keeps = h .keeps; place = h .place; short = h .short; earliest = h .earliest; is = sym e ∙ h .is })
-      (λ (h : OnTimeAll l supply (verdictOf l supply)). other (sym (h .is) ∙ e)))
-      (verdict-tells l supply)
-
   -- The margin is below zero exactly if the list is refused for lateness.
-  pub below-zero : (numbers (verdictOf l supply) .number ≡ 7) ↔ ((n : ℕ) × (numbers (verdictOf l supply) .signed ≡ negsuc n))
-  unfolding numbers
+  pub below-zero : (verdictAnswer (verdictOf l supply) .number ≡ 7) ↔ ((n : ℕ) × (verdictAnswer (verdictOf l supply) .margin ≡ negsuc n))
+  unfolding verdictAnswer
   below-zero =
       ⊎-elim
       (λ (h : ByBounds l supply (verdictOf l supply)). rw (h .is) (λ z. absurd (omega (arith, h .to-6)), λ n. absurd (pos-ne-negsuc _ _ (n .1))))
@@ -133,3 +121,20 @@ module _ (l : TaskList) (supply : ℕ) where
       (λ (h : ForLateness l supply (verdictOf l supply)). rw (h .is) (λ z. (h .short, refl), λ n. refl))
       (λ (h : OnTimeAll l supply (verdictOf l supply)). rw (h .is) (λ z. absurd (omega arith), λ n. absurd (pos-ne-negsuc _ _ (n .1)))))
       (verdict-tells l supply)
+
+  -- A list is accepted only if it keeps all bounds and every job of the cycle is on time, and is never refused by number 0.
+  pub accepted-as : verdictAnswer (verdictOf l supply) .number ≡ 0 → OnTimeAll l supply (verdictOf l supply)
+  unfolding verdictAnswer
+  accepted-as z =
+      ⊎-elim
+      (λ (h : ByBounds l supply (verdictOf l supply)).
+      let T = broken-tells l supply (h .number) (h .task) (h .broken) in
+      absurd (T .some (sym (T .number-is) ∙ sym (ap (λ (v : Verdict). verdictAnswer v .number) (h .is)) ∙ z)))
+      (⊎-elim
+      (λ (h : ForLateness l supply (verdictOf l supply)). absurd (omega (arith, ap (λ (v : Verdict). verdictAnswer v .number) (h .is))))
+      (λ (h : OnTimeAll l supply (verdictOf l supply)). h))
+      (verdict-tells l supply)
+
+  pub refused-not-0 : (number task : ℕ) (margin : ℤ) → verdictOf l supply ≡ Refused number task margin → number ≡ 0 → ⊥
+  unfolding verdictAnswer
+  refused-not-0 number task margin e z = other (sym (accepted-as (ap (λ (v : Verdict). verdictAnswer v .number) e ∙ z) .is) ∙ e)

@@ -186,20 +186,3 @@ module _ (P : Plan) where
   pub late-stays : (t n : ℕ) → (lateness P t .task ≡ 0 → ⊥) → lateness P (t + n) ≡ lateness P t
   late-stays t zero nz = ap (lateness P) (omega arith)
   late-stays t (suc n) nz = ap (lateness P) (add-suc t n) ∙ late-next (t + n) (lateness P t) nz (late-stays t n nz)
-
-  -- without a task there is nothing lacking
-  nobody : (f : ℕ → ℕ) (e : ℕ) → e ≡ 0 → lateBy f e .short ≡ 0
-  unfolding lateBy
-  nobody f zero z = refl
-  nobody f (suc i) z = absurd (omega arith)
-
-  pub none-short : (t : ℕ) → lateness P t .task ≡ 0 → lateness P t .short ≡ 0
-  unfolding lateness
-  none-short zero z = refl
-  none-short (suc t) z =
-      ⊎-elim
-      (λ (y : lateness P t .task ≡ 0).
-      let s = earlier-second (lateness P t) (lateBy (missing P t) (missedAt P t)) y in
-      ap (λ (x : Late). x .short) s ∙ nobody _ (missedAt P t) (sym (late-task (missing P t) (missedAt P t)) ∙ sym (ap (λ (x : Late). x .task) s) ∙ z))
-      (λ (nz : lateness P t .task ≡ 0 → ⊥). absurd (nz (sym (ap (λ (x : Late). x .task) (earlier-first (lateness P t) (lateBy (missing P t) (missedAt P t)) nz)) ∙ z)))
-      (eq-or-ne (lateness P t .task) 0)

@@ -10,7 +10,7 @@ use lib.ListN.{length, set}
 use Rattle.basis.specs.Bytes.{at, overwrite}
 use Rattle.basis.specs.Choose.{choose}
 use Rattle.basis.specs.Sum.{sum}
-use Rattle.plan.specs.Order.{NoPlace, FirstPlace}
+use Rattle.plan.specs.Order.{FirstPlace}
 use Rattle.plan.specs.Events.{left, GoesTo}
 use Rattle.tasks.specs.declared.TaskList.{TaskList}
 use Rattle.tasks.specs.Kept.{KeepsBounds}
@@ -93,44 +93,58 @@ module _ (periods dues runtimes releases events lacks : List ℕ) (t k : ℕ) wh
   unfoldable pub lackThen : ℕ
   lackThen = turned (at releases k + at periods k) (at events k) t (at lacks k) (at lacks k) (at runtimes k)
 
-  -- The answer is the task's next event, or 0 where it misses its deadline.
-  pub record TurnedOne (releases′ events′ lacks′ : List ℕ) (event : ℕ) : Type 0 where
-    pub misses : event ≡ 0 → 0 < missingOf (at events k) (at lacks k) t
-    pub keeps : event ≡ 0 → lacks′ ≡ lacks
-    pub misses-none : (event ≡ 0 → ⊥) → missingOf (at events k) (at lacks k) t ≡ 0
-    pub event-is : (event ≡ 0 → ⊥) → event ≡ eventThen
-    pub events-are : (event ≡ 0 → ⊥) → events′ ≡ set events k eventThen
-    pub releases-are : (event ≡ 0 → ⊥) → releases′ ≡ set releases k releaseThen
-    pub lacks-are : (event ≡ 0 → ⊥) → lacks′ ≡ set lacks k lackThen
+  -- It misses its deadline, and the answer is 0;
+  pub record Misses (lacks′ : List ℕ) (event : ℕ) : Type 0 where
+    pub event-is : event ≡ 0
+    pub wanting : 0 < missingOf (at events k) (at lacks k) t
+    pub short-is : at lacks′ k ≡ missingOf (at events k) (at lacks k) t
+
+  -- or it does not, and the answer is its next event.
+  pub record Passes (releases′ events′ lacks′ : List ℕ) (event : ℕ) : Type 0 where
+    pub some : 0 < event
+    pub none : missingOf (at events k) (at lacks k) t ≡ 0
+    pub event-is : event ≡ eventThen
+    pub events-are : events′ ≡ set events k eventThen
+    pub releases-are : releases′ ≡ set releases k releaseThen
+    pub lacks-are : lacks′ ≡ set lacks k lackThen
+
+  abbrev pub TurnedOne : List ℕ → List ℕ → List ℕ → ℕ → Type 0
+  TurnedOne releases′ events′ lacks′ event = Misses lacks′ event ⊎ Passes releases′ events′ lacks′ event
 
 -- ---- all tasks at slice t
--- No task misses its deadline there; or the first by rank does.
-pub record NoneLate (missing : ℕ → ℕ) (n : ℕ) (late : Late) : Type 0 where
-  pub none : NoPlace missing n (late .task)
-  pub short-is : late .short ≡ 0
-
-pub record OneLate (order : List ℕ) (missing : ℕ → ℕ) (n : ℕ) (late : Late) : Type 0 where
-  pub first : FirstPlace order missing n (late .task)
-  pub short-is : late .short ≡ missing (first .place)
-
-unfoldable pub LateIn : List ℕ → (ℕ → ℕ) → ℕ → Late → Type 0
-LateIn order missing n late = NoneLate missing n late ⊎ OneLate order missing n late
+abbrev pub noneLate : Late
+noneLate = record { task = 0; short = 0 }
 
 -- The next event of all is the least of the tasks' events, and 8,192 at most.
 pub record Earliest (event : ℕ → ℕ) (n next : ℕ) : Type 0 where
   pub no-later : (k : ℕ) → k < n → next ≤ event k
   pub greatest : (x : ℕ) → x ≤ 8192 → ((k : ℕ) → k < n → x ≤ event k) → x ≤ next
 
-pub record TurnedAll (order periods dues runtimes releases events lacks : List ℕ) (n t : ℕ) (releases′ events′ lacks′ : List ℕ) (r : Turned) : Type 0 where
-  pub late-is : LateIn order (λ k. missingOf (at events k) (at lacks k) t) n (r .late)
-  pub events-are : r .late .task ≡ 0 → events′ ≡ overwrite (eventThen periods dues runtimes releases events lacks t) n events
-  pub releases-are : r .late .task ≡ 0 → releases′ ≡ overwrite (releaseThen periods dues runtimes releases events lacks t) n releases
-  pub lacks-are : r .late .task ≡ 0 → lacks′ ≡ overwrite (lackThen periods dues runtimes releases events lacks t) n lacks
-  pub next-is : r .late .task ≡ 0 → Earliest (eventThen periods dues runtimes releases events lacks t) n (r .next)
+-- The first by rank to miss its deadline is found;
+pub record OneLate (order : List ℕ) (missing : ℕ → ℕ) (n : ℕ) (late : Late) : Type 0 where
+  pub first : FirstPlace order missing n (late .task)
+  pub short-is : late .short ≡ missing (first .place)
+
+-- or none misses it, and all have turned.
+pub record AllTurned (periods dues runtimes releases events lacks : List ℕ) (n t : ℕ) (releases′ events′ lacks′ : List ℕ) (r : Turned) : Type 0 where
+  pub late-is : r .late ≡ noneLate
+  pub none-late : (k : ℕ) → k < n → missingOf (at events k) (at lacks k) t ≡ 0
+  pub events-are : events′ ≡ overwrite (eventThen periods dues runtimes releases events lacks t) n events
+  pub releases-are : releases′ ≡ overwrite (releaseThen periods dues runtimes releases events lacks t) n releases
+  pub lacks-are : lacks′ ≡ overwrite (lackThen periods dues runtimes releases events lacks t) n lacks
+  pub next-is : Earliest (eventThen periods dues runtimes releases events lacks t) n (r .next)
+
+abbrev pub TurnedAll : (order periods dues runtimes releases events lacks : List ℕ) (n t : ℕ) (releases′ events′ lacks′ : List ℕ) → Turned → Type 0
+TurnedAll order periods dues runtimes releases events lacks n t releases′ events′ lacks′ r = OneLate order (λ k. missingOf (at events k) (at lacks k) t) n (r .late) ⊎ AllTurned periods dues runtimes releases events lacks n t releases′ events′ lacks′ r
 
 -- ---- the tightest task
-unfoldable pub marginAt : List ℕ → List ℕ → ℕ → ℕ
+abbrev pub marginAt : List ℕ → List ℕ → ℕ → ℕ
 marginAt dues ends k = at dues k - at ends k
+
+-- of places k and best, the one of the smaller margin, and best where they are equal
+pub record Tighter (margin : ℕ → ℕ) (k best r : ℕ) : Type 0 where
+  pub smaller : margin k < margin best → r ≡ k
+  pub not-smaller : margin best ≤ margin k → r ≡ best
 
 -- The first place with the smallest margin.
 pub record TightestAt (margin : ℕ → ℕ) (n best : ℕ) : Type 0 where

@@ -1,8 +1,9 @@
 -- The verdict: the first refusal that applies, of 1 to 7; or accepted.
 use Prim.Native.Nat.{ℕ, suc}
 use lib.Dec.{eqb}
-use lib.IntN.{ℤ, pos, subℕ}
+use lib.IntN.{pos, subℕ}
 use Rattle.basis.specs.Choose.{choose}
+use Rattle.basis.specs.Answer.{Answer}
 use Rattle.plan.specs.Plan.{Plan}
 use Rattle.tasks.specs.declared.TaskList.{TaskList}
 use Rattle.tasks.specs.declared.Bounds.{Bounds}
@@ -30,15 +31,7 @@ verdictFrom l (Kept cycle jobs) = judged (planOf l) cycle jobs (lateness (planOf
 unfoldable pub verdictOf : TaskList → ℕ → Verdict
 verdictOf l supply = verdictFrom l (boundsOf l supply)
 
--- ---- the paper's number and values for each case
--- Refusal number (0: accepted), task, margin, cycle and job count. Refused, cycle and job count are 0.
-pub record Numbers : Type 0 where
-  pub number : ℕ
-  pub task : ℕ
-  pub signed : ℤ
-  pub cycle : ℕ
-  pub jobs : ℕ
-
-unfoldable pub numbers : Verdict → Numbers
-numbers (Accepted cycle jobs task margin) = record { number = 0; task = task; signed = margin; cycle = cycle; jobs = jobs }
-numbers (Refused number task margin) = record { number = number; task = task; signed = margin; cycle = 0; jobs = 0 }
+-- The paper's values of each case.
+unfoldable pub verdictAnswer : Verdict → Answer
+verdictAnswer (Accepted cycle jobs task margin) = record { number = 0; task = task; margin = margin; cycle = cycle; jobs = jobs }
+verdictAnswer (Refused number task margin) = record { number = number; task = task; margin = margin; cycle = 0; jobs = 0 }

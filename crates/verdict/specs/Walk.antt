@@ -23,7 +23,7 @@ use Rattle.verdict.specs.declared.Late.{Late}
 use Rattle.verdict.specs.Lateness.{received, missing, missedAt, lateBy, lateness}
 use Rattle.verdict.specs.Deadlines.{nothing-late, earlier-second}
 use Rattle.verdict.specs.Ends.{endBy, end-got, end-kept, end-shut}
-use Rattle.verdict.specs.Shapes.{Bounded, until, endAfter, missingOf, turned, eventThen, releaseThen, lackThen, LateIn}
+use Rattle.verdict.specs.Shapes.{Bounded, until, endAfter, missingOf, turned, eventThen, releaseThen, lackThen, noneLate, OneLate}
 
 -- ---- the arrays
 -- They show the plan: place k of each belongs to the k-th task by rank.
@@ -67,12 +67,6 @@ module _ {A : Type 0} (next event t : ℕ) (stays waits begins : A) where
   pub turned-begins : event ≡ t → next ≤ t → turned next event t stays waits begins ≡ begins
   unfolding turned
   turned-begins e l = choose-yes _ _ _ (eq-eqb event t e) ∙ choose-no _ _ _ (le-ltb t next l)
-
--- ---- a missed deadline from its two parts
-late-of : (late : Late) (f : ℕ → ℕ) (e : ℕ) → late .task ≡ e → ((i : ℕ) → e ≡ suc i → late .short ≡ f i) → (e ≡ 0 → late .short ≡ 0) → late ≡ lateBy f e
-unfolding lateBy
-late-of late f zero p some none = λ j. record { task = p j; short = none refl j }
-late-of late f (suc i) p some none = λ j. record { task = p j; short = some i refl j }
 
 -- ---- the end of a first job, slice by slice
 module _ (lack : ℕ → ℕ) (k s : ℕ) where
@@ -168,22 +162,20 @@ module _ (P : Plan) (S : Sound P) (order periods dues runtimes : List ℕ) (W : 
     unfolding missedAt
     missed-is e f = ranked-first (keyIn P u) (missing P u) _ n order (W .ranked u) (λ k lk. sym (missing-is k lk)) e f
 
-    late-so : (late : Late) → late .task ≡ missedAt P u → ((i : ℕ) → late .task ≡ suc i → late .short ≡ missing P u i) → (late .task ≡ 0 → late .short ≡ 0) → late ≡ lateness P next
+    late-then : lateness P next ≡ lateBy (missing P u) (missedAt P u)
     unfolding lateness
-    late-so late e some none =
-        late-of late (missing P u) (missedAt P u) e (λ i q. some i (e ∙ q)) (λ q. none (e ∙ q))
-        ∙ sym (earlier-second (lateness P u) (lateBy (missing P u) (missedAt P u)) on-time-so-far)
-        ∙ sym (ap (lateness P) is-next)
+    late-then = ap (lateness P) is-next ∙ earlier-second (lateness P u) (lateBy (missing P u) (missedAt P u)) on-time-so-far
 
-    pub late-is : (late : Late) → LateIn order (λ k. missingOf (at events k) (at lacks₁ k) next) n late → late ≡ lateness P next
-    unfolding LateIn FirstIn
-    late-is late (inl L) = late-so late (missed-is (late .task) (inl (L .none))) (λ i e. absurd (omega (arith, L .none .idle))) (λ _. L .short-is)
-    late-is late (inr L) =
-        late-so late (missed-is (late .task) (inr (L .first)))
-        (λ i e.
-        let q : at order (L .first .place) ≡ i = suc-inj (sym (L .first .is) ∙ e) in
-        L .short-is ∙ sym (missing-is (L .first .place) (L .first .below)) ∙ ap (missing P u) q)
-        (λ z. absurd (omega (arith, L .first .is)))
+    pub none-late-then : ((k : ℕ) → k < n → missingOf (at events k) (at lacks₁ k) next ≡ 0) → noneLate ≡ lateness P next
+    unfolding lateBy FirstIn
+    none-late-then none = ap (lateBy (missing P u)) (missed-is 0 (inl (record { idle = refl; none = none }))) ∙ sym late-then
+
+    pub one-late-then : (late : Late) → OneLate order (λ k. missingOf (at events k) (at lacks₁ k) next) n late → late ≡ lateness P next
+    unfolding lateBy FirstIn
+    one-late-then late L =
+        (λ j. record { task = L .first .is j; short = (L .short-is ∙ sym (missing-is (L .first .place) (L .first .below))) j })
+        ∙ ap (lateBy (missing P u)) (sym (L .first .is) ∙ missed-is (late .task) (inr (L .first)))
+        ∙ sym late-then
 
     -- ---- the end of a first job
     -- In its first job a task has its next event at its deadline.

@@ -71,7 +71,7 @@ fn conclude(
         };
     }
     let best = walk::tightest(dues, &ends, count);
-    let margin = dues[best] - ends[best];
+    let margin = walk::margin_at(dues, &ends, best);
     Verdict::Accepted {
         cycle,
         jobs,

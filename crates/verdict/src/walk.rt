@@ -5,9 +5,7 @@ ghost use Prim.Native.Nat.{ℕ, _-_, _≤_, _<_, min};
 ghost use lib.ListN.{length, set, replicate};
 ghost use Rattle.basis.specs.Bytes.{at};
 ghost use Rattle.tasks.specs.List.{planOf};
-ghost use lib.Dec.{ltb};
-ghost use Rattle.basis.specs.Choose.{choose};
-ghost use Rattle.verdict.specs.Shapes.{Fits, HandedOne, HandedOut, Filled, TurnedOne, TurnedAll, marginAt, TightestAt};
+ghost use Rattle.verdict.specs.Shapes.{Fits, HandedOne, HandedOut, Filled, TurnedOne, TurnedAll, marginAt, Tighter, TightestAt};
 ghost use Rattle.verdict.specs.Walk.{Shown, Walked};
 use crate::Late;
 
@@ -219,12 +217,20 @@ pub(crate) fn simulate(
     Late { task: 0, short: 0 }
 }
 
+// The margin of the task at place k.
+pub(crate) fn margin_at(dues: &[u32; 16], ends: &[u32; 16], k: usize) -> u32
+    requires { ⌜ (k < 16) × (at (now ends) k ≤ at (now dues) k) ⌝ }
+    ensures { λ r. ⌜ r ≡ marginAt (now (dues .entry)) (now (ends .entry)) k ⌝ }
+{
+    dues[k] - ends[k]
+}
+
 // The place of the tighter of two tasks, of which `best` stands earlier: the smaller margin, then the first-ranking one.
 fn tighter(dues: &[u32; 16], ends: &[u32; 16], k: usize, best: usize) -> usize
     requires { ⌜ (k < 16) × (best < 16) × (at (now ends) k ≤ at (now dues) k) × (at (now ends) best ≤ at (now dues) best) ⌝ }
-    ensures { λ r. ⌜ r ≡ choose (ltb (marginAt (now (dues .entry)) (now (ends .entry)) k) (marginAt (now (dues .entry)) (now (ends .entry)) best)) k best ⌝ }
+    ensures { λ r. ⌜ Tighter (marginAt (now (dues .entry)) (now (ends .entry))) k best r ⌝ }
 {
-    if dues[k] - ends[k] < dues[best] - ends[best] {
+    if margin_at(dues, ends, k) < margin_at(dues, ends, best) {
         k
     } else {
         best

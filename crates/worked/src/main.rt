@@ -93,6 +93,14 @@ fn narrow(task: usize) -> u32 {
     if task < 1000 { task as u32 } else { 1000 }
 }
 
+fn short(number: u64) -> u32 {
+    if number < 4294967296 {
+        number as u32
+    } else {
+        0
+    }
+}
+
 fn take_apart(verdict: Verdict) -> Numbers {
     match verdict {
         Verdict::Accepted {
@@ -176,6 +184,7 @@ fn lists_of_two(tally: Tally) -> Tally {
     let wider = of_two(task(64, 1), task(65, 1));
     let t = compare(t, b"(64,1)(65,1) refusal", wider.refusal, 6);
     let t = compare(t, b"(64,1)(65,1) task", wider.task, 2);
+    let t = compare(t, b"(64,1)(65,1) multiple", short(tasks::lcm(64, 65)), 4160);
     let over = of_two(task(3, 4), task(0, 1));
     let t = compare(t, b"(3,4)(0,1) refusal", over.refusal, 4);
     compare(t, b"(3,4)(0,1) task", over.task, 1)

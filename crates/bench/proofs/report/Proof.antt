@@ -1,7 +1,8 @@
 -- `bench::report` meets its contract, by each answer to who runs.
 use Rattle.bench.proofs.Reports.{runs-in, told-reports}
 use mathlib.Core.Path.{refl}
-use Rattle.run.specs.Who.{whoNumbers}
+use Rattle.basis.specs.Answer.{refusal, none}
+use Rattle.run.specs.Who.{runnerAnswer}
 use Rattle.bench.specs.Course.{reportOf}
 use borrow.Author.Needs.{needs}
 use Rattle.bench.proofs.report.Statement.{statement}
@@ -23,15 +24,15 @@ enum-told-2 : tie.Need-enum-told-2
 enum-told-2 c = search needs
 
 returns : tie.Need-returns
-unfolding whoNumbers reportOf
+unfolding runnerAnswer none refusal reportOf
 returns c = told-reports _ _ _ (c .before .before .who .ensures) _ 0 0 (rw (c .enum-told .given .1)) refl
 
 returns-2 : tie.Need-returns-2
-unfolding whoNumbers
+unfolding runnerAnswer
 returns-2 c = told-reports _ _ _ (c .before .before .before .before .who .ensures) _ _ _ (rw (c .before .before .runner .given .1)) (c .report-of .ensures)
 
 returns-3 : tie.Need-returns-3
-unfolding whoNumbers reportOf
+unfolding runnerAnswer none refusal reportOf
 returns-3 c = told-reports _ _ _ (c .before .before .who .ensures) _ 0 0 (rw (c .enum-told2 .given .1)) refl
 
 pub report-spec : {M : Type 1} → statement M

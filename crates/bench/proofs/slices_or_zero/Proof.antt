@@ -1,5 +1,5 @@
 -- `bench::slices_or_zero` meets its contract, case by case.
-use Rattle.units.specs.Conversion.{paper, accepted, refused}
+use Rattle.units.specs.Conversion.{slicesOf}
 use borrow.Author.Needs.{needs}
 use Rattle.bench.proofs.slices_or_zero.Statement.{statement}
 use Rattle.bench.proofs.slices_or_zero.Tie as tie
@@ -11,11 +11,11 @@ enum-told : tie.Need-enum-told
 enum-told c = search needs
 
 returns : tie.Need-returns
-unfolding paper accepted refused
+unfolding slicesOf
 returns c = cc
 
 returns-2 : tie.Need-returns-2
-unfolding paper accepted refused
+unfolding slicesOf
 returns-2 c = cc
 
 pub slices-or-zero-spec : {M : Type 1} → statement M

@@ -4,12 +4,6 @@ use borrow.Author.Needs.{needs}
 use Rattle.checksum.proofs.mode_byte.Statement.{statement}
 use Rattle.checksum.proofs.mode_byte.Tie as tie
 
-enum-told : tie.Need-enum-told
-enum-told c = search needs
-
-enum-told-2 : tie.Need-enum-told-2
-enum-told-2 c = search needs
-
 returns : tie.Need-returns
 unfolding modeByte
 returns c = cc
@@ -19,4 +13,4 @@ unfolding modeByte
 returns-2 c = cc
 
 pub mode-byte-spec : {M : Type 1} → statement M
-mode-byte-spec = tie.close (tie.spec enum-told enum-told-2 returns returns-2)
+mode-byte-spec = tie.close (tie.spec (λ c. search needs) (λ c. search needs) returns returns-2)

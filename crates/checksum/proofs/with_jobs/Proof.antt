@@ -25,30 +25,6 @@ loop-holds : tie.Need-loop-holds Inv-loop μ-loop
 unfolding overJobs
 loop-holds c = (omega arith, refl)
 
-mul-with-word : tie.Need-mul-with-word Inv-loop μ-loop
-mul-with-word c = search needs
-
-element-copy-out-with-word : tie.Need-element-copy-out-with-word Inv-loop μ-loop
-element-copy-out-with-word c = search needs
-
-with-word-requires : tie.Need-with-word-requires Inv-loop μ-loop
-with-word-requires c κs = search needs
-
-element-copy-out-with-byte : tie.Need-element-copy-out-with-byte Inv-loop μ-loop
-element-copy-out-with-byte c = search needs
-
-cast-with-byte : tie.Need-cast-with-byte Inv-loop μ-loop
-cast-with-byte c = search needs
-
-with-byte-requires : tie.Need-with-byte-requires Inv-loop μ-loop
-with-byte-requires c κs = search needs
-
-add-i : tie.Need-add-i Inv-loop μ-loop
-add-i c = search needs
-
-loop-less : tie.Need-loop-less Inv-loop μ-loop
-loop-less c = search needs
-
 loop-again : tie.Need-loop-again Inv-loop μ-loop
 unfolding overJobs
 loop-again c = (omega arith, rw add-one (cc (as-byte _)))
@@ -59,17 +35,6 @@ returns c = let e : c .before .loop .i ≡ 16 = omega arith in cc
 pub with-jobs-spec : {M : Type 1} → statement M
 with-jobs-spec =
     tie.close
-    (tie.spec
-    Inv-loop
-    μ-loop
-    loop-holds
-    mul-with-word
-    element-copy-out-with-word
-    with-word-requires
-    element-copy-out-with-byte
-    cast-with-byte
-    with-byte-requires
-    add-i
-    loop-less
-    loop-again
+    (tie.spec Inv-loop μ-loop loop-holds (λ c. search needs) (λ c. search needs) (λ c. search needs)
+    (λ c. search needs) (λ c. search needs) (λ c. search needs) (λ c. search needs) (λ c. search needs) loop-again
     returns)

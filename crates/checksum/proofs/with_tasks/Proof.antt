@@ -18,30 +18,6 @@ loop-holds : tie.Need-loop-holds Inv-loop μ-loop
 unfolding overTasks
 loop-holds c = (omega arith, refl)
 
-mul-with-word : tie.Need-mul-with-word Inv-loop μ-loop
-mul-with-word c = search needs
-
-element-copy-out-with-word : tie.Need-element-copy-out-with-word Inv-loop μ-loop
-element-copy-out-with-word c = search needs
-
-with-word-requires : tie.Need-with-word-requires Inv-loop μ-loop
-with-word-requires c κs = search needs
-
-mul-with-word-2 : tie.Need-mul-with-word-2 Inv-loop μ-loop
-mul-with-word-2 c = search needs
-
-element-copy-out-with-word-2 : tie.Need-element-copy-out-with-word-2 Inv-loop μ-loop
-element-copy-out-with-word-2 c = search needs
-
-with-word-requires-2 : tie.Need-with-word-requires-2 Inv-loop μ-loop
-with-word-requires-2 c κs = search needs
-
-add-i : tie.Need-add-i Inv-loop μ-loop
-add-i c = search needs
-
-loop-less : tie.Need-loop-less Inv-loop μ-loop
-loop-less c = search needs
-
 loop-again : tie.Need-loop-again Inv-loop μ-loop
 unfolding overTasks
 loop-again c = (omega arith, rw add-one (cc))
@@ -52,17 +28,6 @@ returns c = let e : c .before .loop .i ≡ 16 = omega arith in cc
 pub with-tasks-spec : {M : Type 1} → statement M
 with-tasks-spec =
     tie.close
-    (tie.spec
-    Inv-loop
-    μ-loop
-    loop-holds
-    mul-with-word
-    element-copy-out-with-word
-    with-word-requires
-    mul-with-word-2
-    element-copy-out-with-word-2
-    with-word-requires-2
-    add-i
-    loop-less
-    loop-again
+    (tie.spec Inv-loop μ-loop loop-holds (λ c. search needs) (λ c. search needs) (λ c. search needs)
+    (λ c. search needs) (λ c. search needs) (λ c. search needs) (λ c. search needs) (λ c. search needs) loop-again
     returns)

@@ -1,23 +1,20 @@
--- `start_list` meets its contract: a start with the records lent is a start with the list.
+-- `start_list` meets its contract: a start with a list alike is a start with the list.
 use borrow.Author.Needs.{needs}
-use Rattle.lent.specs.Lent.{lent-within, begins-so}
+use Rattle.lent.specs.Lent.{begins-alike}
 use Rattle.lent.proofs.start_list.Statement.{statement}
 use Rattle.lent.proofs.start_list.Tie as tie
 
-seventeen-of-requires : tie.Need-seventeen-of-requires
-seventeen-of-requires c κs = search needs
+relisted-requires : tie.Need-relisted-requires
+relisted-requires c κs = search needs
 
-lent-count-requires : tie.Need-lent-count-requires
-lent-count-requires c κs = search needs
-
-start-first-requires : tie.Need-start-first-requires
-start-first-requires c κs = lent-within _ _ (c .before .lent-count .ensures)
+start-requires : tie.Need-start-requires
+start-requires c κs = search needs
 
 same-length : tie.Need-same-length
 same-length c = search needs
 
 returns : tie.Need-returns
-returns c = begins-so _ _ _ _ (c .before .before .before .before .before .seventeen-of .ensures) (c .before .before .before .before .lent-count .ensures) _ _ _ _ _ (c .before .before .start-first .ensures)
+returns c = begins-alike _ _ (c .before .before .before .before .relisted .ensures) _ _ _ _ _ _ (c .before .before .start .ensures)
 
 pub start-list-spec : {M : Type 1} → statement M
-start-list-spec = tie.close (tie.spec seventeen-of-requires lent-count-requires start-first-requires same-length returns)
+start-list-spec = tie.close (tie.spec relisted-requires start-requires same-length returns)

@@ -1,5 +1,7 @@
 -- `refuse_form` meets its contract.
-use Rattle.ozhmandil.specs.Output.{ofForm}
+use Rattle.basis.specs.Answer.{refusal, none}
+use Rattle.records.specs.Grammar.{formAnswer}
+use Rattle.output.specs.Output.{recordOf}
 use borrow.Author.Needs.{needs}
 use Rattle.ozhmandil.proofs.refuse_form.Tie as tie
 use Rattle.ozhmandil.proofs.refuse_form.Statement.{statement}
@@ -20,14 +22,14 @@ same-length : tie.Need-same-length
 same-length c = search needs
 
 returns : tie.Need-returns
-unfolding ofForm
+unfolding recordOf formAnswer refusal none
 returns c = (rw (c .before .before .before .before .before .form .given .1) (c .before .before .write-refusal .ensures .0), c .before .before .write-refusal .ensures .1)
 
 same-length-2 : tie.Need-same-length-2
 same-length-2 c = search needs
 
 returns-2 : tie.Need-returns-2
-unfolding ofForm
+unfolding recordOf formAnswer refusal none
 returns-2 c = (rw (c .before .before .before .before .enum-told .given .1) (c .before .before .write-refusal2 .ensures .0), c .before .before .write-refusal2 .ensures .1)
 
 pub refuse-form-spec : {M : Type 1} → statement M

@@ -7,18 +7,18 @@ use Rattle.printing.proofs.put_field.Tie as tie
 
 put-decimal-requires : tie.Need-put-decimal-requires
 unfolding field
-put-decimal-requires c κs = room-first _ _ (c .before .before .pre)
+put-decimal-requires c κs = search room-first
 
 put-requires : tie.Need-put-requires
 unfolding field ascii
-put-requires c κs = room-next _ _ (c .before .before .before .before .before .before .pre) (c .before .before .before .put-decimal .ensures)
+put-requires c κs = search room-next
 
 same-length : tie.Need-same-length
 same-length c = search needs
 
 returns : tie.Need-returns
 unfolding field ascii
-returns c = chain (c .before .before .before .before .before .before .put-decimal .ensures) (c .before .before .put .ensures)
+returns c = search chain
 
 pub put-field-spec : {M : Type 1} → statement M
 put-field-spec = tie.close (tie.spec put-decimal-requires put-requires same-length returns)

@@ -8,17 +8,11 @@ use Rattle.printing.proofs.put_refusal.Tie as tie
 
 put-field-requires : tie.Need-put-field-requires
 unfolding refusalRecord
-put-field-requires c κs =
-    let all = room-first _ _ (c .before .before .pre) in
-    let fields = room-first _ _ all in
-    room-first _ _ fields
+put-field-requires c κs = search room-first
 
 put-field-requires-2 : tie.Need-put-field-requires-2
 unfolding refusalRecord
-put-field-requires-2 c κs =
-    let all = room-first _ _ (c .before .before .before .before .before .before .pre) in
-    let fields = room-first _ _ all in
-    room-next _ _ fields (c .before .before .before .put-field .ensures)
+put-field-requires-2 c κs = search (room-first, room-next)
 
 put-signed-requires : tie.Need-put-signed-requires
 unfolding refusalRecord

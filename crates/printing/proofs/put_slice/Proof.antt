@@ -7,15 +7,11 @@ use Rattle.printing.proofs.put_slice.Tie as tie
 
 put-field-requires : tie.Need-put-field-requires
 unfolding sliceRecord
-put-field-requires c κs =
-    let fields = room-first _ _ (c .before .before .pre) in
-    room-first _ _ fields
+put-field-requires c κs = search room-first
 
 put-decimal-requires : tie.Need-put-decimal-requires
 unfolding sliceRecord
-put-decimal-requires c κs =
-    let fields = room-first _ _ (c .before .before .before .before .before .before .pre) in
-    room-next _ _ fields (c .before .before .before .put-field .ensures)
+put-decimal-requires c κs = search (room-first, room-next)
 
 slice-aggregate-put-text : tie.Need-slice-aggregate-put-text
 slice-aggregate-put-text c = search needs
@@ -29,7 +25,7 @@ same-length c = search needs
 
 returns : tie.Need-returns
 unfolding sliceRecord crlf ascii
-returns c = chain (chain (c .before .before .before .before .before .before .before .before .before .before .before .put-field .ensures) (c .before .before .before .before .before .before .before .put-decimal .ensures)) (c .before .before .put-text .ensures)
+returns c = search chain
 
 pub put-slice-spec : {M : Type 1} → statement M
 put-slice-spec = tie.close (tie.spec put-field-requires put-decimal-requires slice-aggregate-put-text put-text-requires same-length returns)

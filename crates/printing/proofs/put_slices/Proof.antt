@@ -3,7 +3,6 @@ use Prim.Native.Nat.{_-_, _≤_}
 use mathlib.Core.Path.{_≡_}
 use native.Mathlib.Omega.{arith}
 use native.Mathlib.Numerals.{add-one}
-use lib.ListN.{length}
 use Rattle.printing.specs.Text.{recordsTo}
 use Rattle.printing.specs.Shapes.{Put}
 use Rattle.printing.proofs.Chain.{put-nothing, put-length, chain}
@@ -12,11 +11,11 @@ use Rattle.printing.proofs.put_slices.Statement.{statement}
 use Rattle.printing.proofs.put_slices.Tie as tie
 
 abbrev Inv-loop : tie.InvT-loop
-Inv-loop table out₀ at next₀ t₀ out next t =
-    (t ≤ length table) × Put (recordsTo table t) at out₀ out next
+Inv-loop table count out₀ at next₀ t₀ out next t =
+    (t ≤ count) × Put (recordsTo table t) at out₀ out next
 
 abbrev μ-loop : tie.MeasureT-loop
-μ-loop table out₀ at next₀ t₀ out next t = length table - t
+μ-loop table count out₀ at next₀ t₀ out next t = count - t
 
 loop-holds : tie.Need-loop-holds Inv-loop μ-loop
 unfolding recordsTo
@@ -26,7 +25,7 @@ shared-slice-read-put-slice : tie.Need-shared-slice-read-put-slice Inv-loop μ-l
 shared-slice-read-put-slice c = omega arith
 
 put-slice-requires : tie.Need-put-slice-requires Inv-loop μ-loop
-put-slice-requires c κs = slice-room _ _ _ (c .before .before .before .before .before .before .pre) (c .before .before .before .loop .inv .1) (c .before .before .loop-test .taken)
+put-slice-requires c κs = slice-room _ _ _ (c .before .before .before .before .before .before .pre .0) (c .before .before .before .loop .inv .1) (c .before .before .loop-test .taken)
 
 add-t : tie.Need-add-t Inv-loop μ-loop
 add-t c = omega arith
@@ -43,7 +42,7 @@ same-length c = put-length (c .before .loop .inv .1)
 
 returns : tie.Need-returns Inv-loop μ-loop
 returns c =
-    let end : c .before .loop .t ≡ length (c .before .before .before .before .args .table .now) = omega arith in
+    let end : c .before .loop .t ≡ c .before .before .before .before .args .count = omega arith in
     rw end at (c .before .loop .inv .1)
 
 pub put-slices-spec : {M : Type 1} → statement M

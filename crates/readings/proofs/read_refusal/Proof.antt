@@ -2,22 +2,22 @@
 use mathlib.Core.Path.{sym}
 use mathlib.Core.Logic.{inl, inr}
 use native.Mathlib.Omega.{arith}
-use Rattle.basis.specs.Choose.{choose}
-use Rattle.readings.specs.Reading.{refusalOf, between}
+use Rattle.basis.specs.Choose.{choose, within}
+use Rattle.readings.specs.Reading.{refusalOf}
 use Rattle.readings.specs.Laws.{reads-bound, reads-run, reads-program, reads-no-refusal}
 use Rattle.readings.proofs.read_refusal.Statement.{statement}
 use Rattle.readings.proofs.read_refusal.Tie as tie
 
 returns : tie.Need-returns
-unfolding refusalOf choose between
+unfolding refusalOf choose within
 returns c = rw (c .match .keys1)
 
 returns-2 : tie.Need-returns-2
-unfolding refusalOf choose between
+unfolding refusalOf choose within
 returns-2 c = rw (c .match .keys2)
 
 returns-3 : tie.Need-returns-3
-unfolding refusalOf choose between
+unfolding refusalOf choose within
 returns-3 c = rw (c .match .keys3)
 
 returns-4 : tie.Need-returns-4

@@ -20,14 +20,5 @@ returns-3 : tie.Need-returns-3
 unfolding withComma
 returns-3 c = search cases depth 12
 
-spoilt-line-requires-2 : tie.Need-spoilt-line-requires-2
-spoilt-line-requires-2 c κs = search needs
-
-returns-4 : tie.Need-returns-4
-unfolding withComma
-returns-4 c = search cases depth 12
-
 pub with-comma-spec : {M : Type 1} → statement M
-with-comma-spec =
-    tie.close
-    (tie.spec returns returns-2 spoilt-line-requires returns-3 spoilt-line-requires-2 returns-4)
+with-comma-spec = tie.close (tie.spec returns returns-2 spoilt-line-requires returns-3)

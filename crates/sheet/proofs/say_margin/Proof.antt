@@ -1,5 +1,5 @@
 -- `sheet::say_margin` is safe.
-use Rattle.sheet.proofs.Margins.{read-wide, read-counts, read-turned, read-turned-counts}
+use Rattle.sheet.proofs.Margins.{read-fits, wide, counts, turned, turned-counts}
 use borrow.Author.Needs.{needs}
 use Rattle.sheet.proofs.say_margin.Statement.{statement}
 use Rattle.sheet.proofs.say_margin.Tie as tie
@@ -11,19 +11,19 @@ slice-aggregate-say-number : tie.Need-slice-aggregate-say-number
 slice-aggregate-say-number c = search needs
 
 cast-say-number : tie.Need-cast-say-number
-cast-say-number c = read-wide _ (c .before .before .before .before .fits .margin)
+cast-say-number c = wide _ (read-fits _ (c .before .before .before .before .fits .margin))
 
 sub-say-number : tie.Need-sub-say-number
-sub-say-number c = read-turned _ (c .before .before .before .before .fits .margin) (c .before .before .if1 .taken)
+sub-say-number c = turned _ (read-fits _ (c .before .before .before .before .fits .margin)) (c .before .before .if1 .taken)
 
 cast-say-number-2 : tie.Need-cast-say-number-2
-cast-say-number-2 c = read-turned-counts _ (c .before .before .before .before .fits .margin) (c .before .before .if1 .taken)
+cast-say-number-2 c = turned-counts _ (read-fits _ (c .before .before .before .before .fits .margin)) (c .before .before .if1 .taken)
 
 say-number-requires : tie.Need-say-number-requires
 say-number-requires c κs = search needs
 
 cast-say-number-3 : tie.Need-cast-say-number-3
-cast-say-number-3 c = read-counts _ (c .before .before .fits .margin) (c .if1 .left)
+cast-say-number-3 c = counts _ (read-fits _ (c .before .before .fits .margin)) (c .if1 .left)
 
 say-number-requires-2 : tie.Need-say-number-requires-2
 say-number-requires-2 c κs = search needs

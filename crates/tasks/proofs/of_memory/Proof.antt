@@ -5,8 +5,9 @@ use native.Mathlib.Omega.{arith}
 use native.Mathlib.Numerals.{add-one}
 use Rattle.basis.specs.Sum.{sum as sumOf}
 use Rattle.tasks.proofs.Steps.{nothing-yet, nothing-here, found-here, nothing-at-all, one-more-memory, exceeds, keeps-to}
+use Rattle.basis.specs.Answer.{firstFound}
 use Rattle.tasks.specs.List.{taskAt, noTask}
-use Rattle.tasks.specs.Bounds.{firstFound, ofMemory, memorySum}
+use Rattle.tasks.specs.Bounds.{ofMemory, memorySum}
 use Rattle.tasks.proofs.of_memory.Statement.{statement}
 use Rattle.tasks.proofs.of_memory.Tie as tie
 

@@ -3,8 +3,9 @@ use Prim.Native.Nat.{_≤_, _-_}
 use mathlib.Core.Path.{_≡_}
 use native.Mathlib.Omega.{arith}
 use Rattle.tasks.proofs.Steps.{nothing-yet, nothing-here, found-here, nothing-at-all, of-task-at}
+use Rattle.basis.specs.Answer.{refusal, firstFound}
 use Rattle.tasks.specs.List.{taskAt, noTask}
-use Rattle.tasks.specs.Bounds.{firstFound, ofTask}
+use Rattle.tasks.specs.Bounds.{ofTask}
 use Rattle.tasks.proofs.of_tasks.Statement.{statement}
 use Rattle.tasks.proofs.of_tasks.Tie as tie
 
@@ -40,7 +41,7 @@ loop-less : tie.Need-loop-less Inv-loop μ-loop
 loop-less c = omega arith
 
 loop-again : tie.Need-loop-again Inv-loop μ-loop
-unfolding taskAt noTask
+unfolding taskAt noTask refusal
 loop-again c = (omega arith, nothing-here _ _ (c .before .before .before .before .before .before .loop .inv .1) (rw (← of-task-at _ _ _ (c .before .before .of-task .ensures)) (c .if2 .left)))
 
 returns-2 : tie.Need-returns-2 Inv-loop μ-loop

@@ -1,7 +1,7 @@
 -- `units::period_slices` meets its contract.
 use borrow.Author.Needs.{needs}
 use Rattle.basis.specs.Choose.{cases}
-use Rattle.units.specs.Conversion.{paper, periodSlices}
+use Rattle.units.specs.Conversion.{periodSlices}
 use Rattle.units.proofs.period_slices.Statement.{statement}
 use Rattle.units.proofs.period_slices.Tie as tie
 
@@ -12,15 +12,15 @@ div-t8 : tie.Need-div-t8
 div-t8 c = search needs
 
 returns : tie.Need-returns
-unfolding paper periodSlices
+unfolding periodSlices
 returns c = search cases depth 12
 
 returns-2 : tie.Need-returns-2
-unfolding paper periodSlices
+unfolding periodSlices
 returns-2 c = search cases depth 12
 
 returns-3 : tie.Need-returns-3
-unfolding paper periodSlices
+unfolding periodSlices
 returns-3 c = search cases depth 12
 
 pub period-slices-spec : {M : Type 1} → statement M

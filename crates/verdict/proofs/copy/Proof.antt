@@ -16,18 +16,6 @@ loop-holds : tie.Need-loop-holds Inv-loop μ-loop
 unfolding overwrite
 loop-holds c = (omega arith, refl)
 
-shared-slice-read-table : tie.Need-shared-slice-read-table Inv-loop μ-loop
-shared-slice-read-table c = omega arith
-
-slice-write-table : tie.Need-slice-write-table Inv-loop μ-loop
-slice-write-table c = omega (arith, overwritten-length _ _ _ _ (c .before .before .loop .inv .1))
-
-add-t : tie.Need-add-t Inv-loop μ-loop
-add-t c = omega arith
-
-loop-less : tie.Need-loop-less Inv-loop μ-loop
-loop-less c = omega arith
-
 loop-again : tie.Need-loop-again Inv-loop μ-loop
 loop-again c = (omega arith, overwrite-next _ _ _ _ _ (c .before .before .loop .inv .1) refl)
 
@@ -44,10 +32,10 @@ copy-spec =
     Inv-loop
     μ-loop
     loop-holds
-    shared-slice-read-table
-    slice-write-table
-    add-t
-    loop-less
+    (λ c. omega arith)
+    (λ c. omega (arith, overwritten-length _ _ _ _ (c .before .before .loop .inv .1)))
+    (λ c. omega arith)
+    (λ c. omega arith)
     loop-again
     same-length
     returns)

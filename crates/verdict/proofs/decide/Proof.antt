@@ -6,38 +6,20 @@ use borrow.Author.Needs.{needs}
 use Rattle.verdict.proofs.decide.Statement.{statement}
 use Rattle.verdict.proofs.decide.Tie as tie
 
-by-rank-requires : tie.Need-by-rank-requires
-by-rank-requires c κs = search needs
-
-slice-aggregate-conclude : tie.Need-slice-aggregate-conclude
-slice-aggregate-conclude c = search needs
-
 conclude-requires : tie.Need-conclude-requires
 conclude-requires c κs = (shown _ _ (c .before .before .before .before .before .before .before .before .before .before .before .before .pre .0) (c .before .before .before .before .before .before .before .before .before .before .before .before .pre .1) _ _ _ _ (c .before .before .before .before .before .before .by-rank .ensures), zeros 0)
 
 returns : tie.Need-returns
 returns c = settled-short _ _ _ _ (c .before .conclude .ensures (shown _ _ (c .before .before .before .before .before .before .before .before .before .before .before .before .before .before .pre .0) (c .before .before .before .before .before .before .before .before .before .before .before .before .before .before .pre .1) _ _ _ _ (c .before .before .before .before .before .before .before .before .by-rank .ensures)) .answer) _ (c .before .before .before .before .before .before .before .if1 .taken)
 
-slice-aggregate-with-table : tie.Need-slice-aggregate-with-table
-slice-aggregate-with-table c = search needs
-
 with-table-requires : tie.Need-with-table-requires
 with-table-requires c κs = (shown _ _ (c .before .before .before .before .before .before .before .before .before .before .before .before .before .before .pre .0) (c .before .before .before .before .before .before .before .before .before .before .before .before .before .before .pre .1) _ _ _ _ (c .before .before .before .before .before .before .before .before .by-rank .ensures), zeros 256, c .before .before .before .before .before .before .if2 .taken, c .before .before .before .before .before .before .before .if1 .left)
-
-same-length : tie.Need-same-length
-same-length c = search needs
 
 returns-2 : tie.Need-returns-2
 returns-2 c = c .before .before .before .with-table .ensures (shown _ _ (c .before .before .before .before .before .before .before .before .before .before .before .before .before .before .before .before .before .before .pre .0) (c .before .before .before .before .before .before .before .before .before .before .before .before .before .before .before .before .before .before .pre .1) _ _ _ _ (c .before .before .before .before .before .before .before .before .before .before .before .before .by-rank .ensures))
 
-slice-aggregate-with-table-2 : tie.Need-slice-aggregate-with-table-2
-slice-aggregate-with-table-2 c = search needs
-
 with-table-requires-2 : tie.Need-with-table-requires-2
 with-table-requires-2 c κs = (shown _ _ (c .before .before .before .before .before .before .before .before .before .before .before .before .before .before .pre .0) (c .before .before .before .before .before .before .before .before .before .before .before .before .before .before .pre .1) _ _ _ _ (c .before .before .before .before .before .before .before .before .by-rank .ensures), zeros 4096, omega (arith, c .before .before .before .before .before .before .before .before .before .before .before .before .before .before .pre .0 .keeps .cycle-within, c .before .before .before .before .before .before .before .before .before .before .before .before .before .before .pre .1), c .before .before .before .before .before .before .before .if1 .left)
-
-same-length-2 : tie.Need-same-length-2
-same-length-2 c = search needs
 
 returns-3 : tie.Need-returns-3
 returns-3 c = c .before .before .before .with-table2 .ensures (shown _ _ (c .before .before .before .before .before .before .before .before .before .before .before .before .before .before .before .before .before .before .pre .0) (c .before .before .before .before .before .before .before .before .before .before .before .before .before .before .before .before .before .before .pre .1) _ _ _ _ (c .before .before .before .before .before .before .before .before .before .before .before .before .by-rank .ensures))
@@ -46,15 +28,15 @@ pub decide-spec : {M : Type 1} → statement M
 decide-spec =
     tie.close
     (tie.spec
-    by-rank-requires
-    slice-aggregate-conclude
+    (λ c κs. search needs)
+    (λ c. search needs)
     conclude-requires
     returns
-    slice-aggregate-with-table
+    (λ c. search needs)
     with-table-requires
-    same-length
+    (λ c. search needs)
     returns-2
-    slice-aggregate-with-table-2
+    (λ c. search needs)
     with-table-requires-2
-    same-length-2
+    (λ c. search needs)
     returns-3)

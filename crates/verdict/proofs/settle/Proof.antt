@@ -5,23 +5,11 @@ use borrow.Author.Needs.{needs}
 use Rattle.verdict.proofs.settle.Statement.{statement}
 use Rattle.verdict.proofs.settle.Tie as tie
 
-check-bounds-requires : tie.Need-check-bounds-requires
-check-bounds-requires c κs = search needs
-
-enum-known-number : tie.Need-enum-known-number
-enum-known-number c = search needs
-
-enum-known-cycle : tie.Need-enum-known-cycle
-enum-known-cycle c = search needs
-
 decide-requires : tie.Need-decide-requires
 decide-requires c κs = kept-bounded _ _ (c .before .before .before .before .before .before .args .table .now) _ _ (sym (c .before .before .before .before .check-bounds .ensures) ∙ c .before .before .cycle .given .1)
 
 returns : tie.Need-returns
 returns c = settle-broken _ _ _ _ _ (sym (c .before .before .before .check-bounds .ensures) ∙ c .before .number .given .1)
-
-same-length : tie.Need-same-length
-same-length c = search needs
 
 returns-2 : tie.Need-returns-2
 returns-2 c = settle-kept _ _ _ _ _ (sym (c .before .before .before .before .before .before .before .check-bounds .ensures) ∙ c .before .before .before .before .before .cycle .given .1) _ _ (c .before .before .decide .ensures)
@@ -30,10 +18,10 @@ pub settle-spec : {M : Type 1} → statement M
 settle-spec =
     tie.close
     (tie.spec
-    check-bounds-requires
-    enum-known-number
-    enum-known-cycle
+    (λ c κs. search needs)
+    (λ c. search needs)
+    (λ c. search needs)
     decide-requires
     returns
-    same-length
+    (λ c. search needs)
     returns-2)

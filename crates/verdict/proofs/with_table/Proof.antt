@@ -8,26 +8,11 @@ use Rattle.verdict.proofs.with_table.Tie as tie
 conclude-requires : tie.Need-conclude-requires
 conclude-requires c κs = (c .before .before .before .pre .0, c .before .before .before .pre .1)
 
-enum-told : tie.Need-enum-told
-enum-told c = search needs
-
-enum-told-2 : tie.Need-enum-told-2
-enum-told-2 c = search needs
-
-same-length : tie.Need-same-length
-same-length c = search needs
-
 returns : tie.Need-returns
 returns c = λ S. settled-refused (S .list) _ _ _ (c .before .before .before .before .conclude .ensures S .answer) _ _ _ _ (c .enum-told2 .given .1)
 
 copy-requires : tie.Need-copy-requires
 copy-requires c κs = (omega (arith, c .before .before .before .before .before .before .before .before .before .before .pre .2), omega (arith, c .before .before .before .before .before .before .before .before .before .before .pre .3))
-
-same-length-2 : tie.Need-same-length-2
-same-length-2 c = search needs
-
-same-length-3 : tie.Need-same-length-3
-same-length-3 c = search needs
 
 returns-2 : tie.Need-returns-2
 returns-2 c = λ S. settled-whole (S .list) _ _ _ (c .before .before .before .before .before .before .before .before .before .conclude .ensures S .answer) _ _ _ _ _ (c .before .before .before .before .before .enum-told .given .1) (c .before .before .before .before .before .before .before .before .before .before .before .before .before .pre .3) _ _ _ (c .before .before .before .before .before .before .before .before .before .before .before .before .before .pre .2) (c .before .before .before .before .before .before .before .before .before .conclude .ensures S .entries) (c .before .before .copy .ensures)
@@ -37,11 +22,11 @@ with-table-spec =
     tie.close
     (tie.spec
     conclude-requires
-    enum-told
-    enum-told-2
-    same-length
+    (λ c. search needs)
+    (λ c. search needs)
+    (λ c. search needs)
     returns
     copy-requires
-    same-length-2
-    same-length-3
+    (λ c. search needs)
+    (λ c. search needs)
     returns-2)

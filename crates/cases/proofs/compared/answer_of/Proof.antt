@@ -4,12 +4,6 @@ use borrow.Author.Needs.{needs}
 use Rattle.cases.proofs.compared.answer_of.Statement.{statement}
 use Rattle.cases.proofs.compared.answer_of.Tie as tie
 
-enum-known-verdict : tie.Need-enum-known-verdict
-enum-known-verdict c = search needs
-
-enum-known-verdict-2 : tie.Need-enum-known-verdict-2
-enum-known-verdict-2 c = search needs
-
 returns : tie.Need-returns
 returns c = accepted-answer _ _ _ _ (search needs) _ _ (c .before .verdict .given .1)
 
@@ -17,4 +11,4 @@ returns-2 : tie.Need-returns-2
 returns-2 c = refused-answer _ _ _ _ (search needs) _ (c .before .verdict2 .given .1)
 
 pub answer-of-spec : {M : Type 1} → statement M
-answer-of-spec = tie.close (tie.spec enum-known-verdict enum-known-verdict-2 returns returns-2)
+answer-of-spec = tie.close (tie.spec (λ c. search needs) (λ c. search needs) returns returns-2)

@@ -4,12 +4,6 @@ use borrow.Author.Needs.{needs}
 use Rattle.cases.proofs.compared.start_answer_of.Statement.{statement}
 use Rattle.cases.proofs.compared.start_answer_of.Tie as tie
 
-enum-told : tie.Need-enum-told
-enum-told c = search needs
-
-enum-known-begun : tie.Need-enum-known-begun
-enum-known-begun c = search needs
-
 returns : tie.Need-returns
 returns c = accepted-start _ _ (search needs)
 
@@ -17,4 +11,4 @@ returns-2 : tie.Need-returns-2
 returns-2 c = refused-start _ _ _ _ _ _ (search needs) (c .before .begun .given .1)
 
 pub start-answer-of-spec : {M : Type 1} → statement M
-start-answer-of-spec = tie.close (tie.spec enum-told enum-known-begun returns returns-2)
+start-answer-of-spec = tie.close (tie.spec (λ c. search needs) (λ c. search needs) returns returns-2)

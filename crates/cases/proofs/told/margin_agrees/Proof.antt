@@ -13,15 +13,9 @@ returns c =
     let F = c .before .fits in
     (λ _. same-margin (c .before .args .expected) (c .before .args .found) (F .expected) (F .found) (c .if1 .taken), λ _. refl)
 
-slice-aggregate-record : tie.Need-slice-aggregate-record
-slice-aggregate-record c = search needs
-
-record-requires : tie.Need-record-requires
-record-requires c κs = search needs
-
 returns-2 : tie.Need-returns-2
 returns-2 c =
     (λ z. absurd (true≢false (sym z)), λ e. absurd (c .before .before .if1 .left (ap (ofZ w32) e)))
 
 pub margin-agrees-spec : {M : Type 1} → statement M
-margin-agrees-spec = tie.close (tie.spec returns slice-aggregate-record record-requires returns-2)
+margin-agrees-spec = tie.close (tie.spec returns (λ c. search needs) (λ c. search needs) returns-2)

@@ -8,15 +8,8 @@ use Rattle.cases.proofs.told.task_agrees.Tie as tie
 returns : tie.Need-returns
 returns c = sym (eq-eqb _ _ (c .if1 .taken))
 
-slice-aggregate-difference : tie.Need-slice-aggregate-difference
-slice-aggregate-difference c = search needs
-
-difference-requires : tie.Need-difference-requires
-difference-requires c κs = search needs
-
 returns-2 : tie.Need-returns-2
 returns-2 c = sym (ne-eqb _ _ (c .before .before .if1 .left))
 
 pub task-agrees-spec : {M : Type 1} → statement M
-task-agrees-spec =
-    tie.close (tie.spec returns slice-aggregate-difference difference-requires returns-2)
+task-agrees-spec = tie.close (tie.spec returns (λ c. search needs) (λ c. search needs) returns-2)

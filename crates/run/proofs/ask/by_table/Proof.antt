@@ -1,51 +1,49 @@
--- `run::ask::by_table` meets its contract.
-use mathlib.Core.Path.{_∙_}
-use native.Mathlib.Omega.{arith}
+-- `run::ask::by_table` meets its contract: each way out by what the entry reads as.
+use mathlib.Core.Path.{sym, _∙_}
 use borrow.Author.Needs.{needs}
-use borrow.Author.Tests.{lt-ltb, le-ltb, eq-eqb, ne-eqb}
+use borrow.Author.Tests.{lt-ltb}
 use Rattle.basis.specs.Choose.{choose}
-use Rattle.run.specs.Shapes.{openEntry, tableAsk}
-use borrow.Author.Needs.{needs}
+use Rattle.run.specs.Shapes.{tableAsk}
+use Rattle.run.proofs.Asking.{reads-idle-as, reads-one, reads-task-as, reads-none-as}
 use Rattle.run.proofs.ask.by_table.Statement.{statement}
 use Rattle.run.proofs.ask.by_table.Tie as tie
 
 refusal-requires : tie.Need-refusal-requires
-refusal-requires c κs = tt
+refusal-requires c κs = search needs
 
 returns : tie.Need-returns
 unfolding tableAsk choose
 returns c = c .refusal .ensures ∙ rw (lt-ltb _ _ (c .before .if1 .taken))
 
-shared-slice-read-entry : tie.Need-shared-slice-read-entry
-shared-slice-read-entry c = search needs
+shared-slice-read-read-entry : tie.Need-shared-slice-read-read-entry
+shared-slice-read-read-entry c = search needs
 
-cast-entry : tie.Need-cast-entry
-cast-entry c = omega (arith, c .shared-slice-known2 .given (c .before .before .before .args .position))
+read-entry-requires : tie.Need-read-entry-requires
+read-entry-requires c κs = search needs
+
+enum-told : tie.Need-enum-told
+enum-told c = search needs
+
+enum-known-entry : tie.Need-enum-known-entry
+enum-known-entry c = search needs
+
+if-open-requires : tie.Need-if-open-requires
+if-open-requires c κs = reads-one _ _ _ (c .before .before .before .before .before .before .before .pre .0) (sym (c .before .before .before .read-entry .ensures) ∙ c .before .entry .given .1)
+
+enum-told-2 : tie.Need-enum-told-2
+enum-told-2 c = search needs
 
 refusal-requires-2 : tie.Need-refusal-requires-2
-refusal-requires-2 c κs = tt
+refusal-requires-2 c κs = search needs
 
 returns-2 : tie.Need-returns-2
-unfolding tableAsk choose
-returns-2 c = c .refusal2 .ensures ∙ rw (le-ltb _ _ (c .before .before .before .if1 .left), lt-ltb _ _ (c .before .if2 .taken))
+returns-2 c = reads-idle-as _ _ _ _ _ _ (c .before .before .before .before .before .before .pre .0) (c .before .before .before .before .if1 .left) (sym (c .before .before .read-entry .ensures) ∙ c .enum-told .given .1)
 
 returns-3 : tie.Need-returns-3
-unfolding tableAsk openEntry choose
-returns-3 c = rw (le-ltb _ _ (c .before .before .before .if1 .left), le-ltb _ _ (c .before .if2 .left), eq-eqb _ _ (c .if3 .taken))
-
-sub-if4 : tie.Need-sub-if4
-sub-if4 c = search needs
-
-element-copy-out-if4 : tie.Need-element-copy-out-if4
-element-copy-out-if4 c = search needs
+returns-3 c = reads-task-as _ _ _ _ _ _ (c .before .before .before .before .before .before .before .before .pre .0) (c .before .before .before .before .before .before .if1 .left) _ _ (sym (c .before .before .before .before .read-entry .ensures) ∙ c .before .before .entry .given .1) (c .if-open .ensures)
 
 returns-4 : tie.Need-returns-4
-unfolding tableAsk openEntry choose
-returns-4 c = rw (le-ltb _ _ (c .before .before .before .before .before .if1 .left), le-ltb _ _ (c .before .before .before .if2 .left), ne-eqb _ _ (c .before .before .if3 .left), c .if4 .taken)
-
-returns-5 : tie.Need-returns-5
-unfolding tableAsk openEntry choose
-returns-5 c = rw (le-ltb _ _ (c .before .before .before .before .before .if1 .left), le-ltb _ _ (c .before .before .before .if2 .left), ne-eqb _ _ (c .before .before .if3 .left), c .if4 .left)
+returns-4 c = c .refusal2 .ensures ∙ reads-none-as _ _ _ _ _ _ (c .before .before .before .before .before .before .before .pre .0) (c .before .before .before .before .before .if1 .left) _ (sym (c .before .before .before .read-entry .ensures) ∙ c .before .enum-told2 .given .1)
 
 pub by-table-spec : {M : Type 1} → statement M
 by-table-spec =
@@ -53,12 +51,13 @@ by-table-spec =
     (tie.spec
     refusal-requires
     returns
-    shared-slice-read-entry
-    cast-entry
+    shared-slice-read-read-entry
+    read-entry-requires
+    enum-told
+    enum-known-entry
+    if-open-requires
+    enum-told-2
     refusal-requires-2
     returns-2
     returns-3
-    sub-if4
-    element-copy-out-if4
-    returns-4
-    returns-5)
+    returns-4)

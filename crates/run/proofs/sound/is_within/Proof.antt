@@ -1,6 +1,6 @@
 -- `run::sound::is_within` meets its contract.
 use borrow.Author.Tests.{lt-leb, le-leb}
-use Rattle.run.specs.State.{within}
+use Rattle.basis.specs.Choose.{within}
 use Rattle.run.proofs.sound.is_within.Statement.{statement}
 use Rattle.run.proofs.sound.is_within.Tie as tie
 

@@ -2,9 +2,7 @@
 use native.Mathlib.Omega.{arith}
 use mathlib.Core.Path.{sym, _∙_}
 use borrow.Author.Tests.{not-true, not-false, lt-leb, le-leb}
-use Rattle.basis.specs.Choose.{choose}
-use Rattle.run.specs.State.{within}
-use Rattle.run.specs.Sound.{within-tells}
+use Rattle.basis.specs.Choose.{choose, within, within-tells}
 use Rattle.run.specs.Shapes.{jobsIfSound}
 use Rattle.run.proofs.sound.jobs_if_sound.Statement.{statement}
 use Rattle.run.proofs.sound.jobs_if_sound.Tie as tie

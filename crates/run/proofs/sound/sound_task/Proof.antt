@@ -2,8 +2,8 @@
 use mathlib.Core.Path.{_≡_, sym, _∙_}
 use mathlib.Core.Bool.{true}
 use borrow.Author.Tests.{not-true, not-false, eq-eqb, ne-eqb, le-leb, lt-leb}
-use Rattle.run.specs.State.{within, soundTask}
-use Rattle.run.specs.Sound.{within-tells}
+use Rattle.basis.specs.Choose.{within, within-tells}
+use Rattle.run.specs.State.{soundTask}
 use Rattle.run.proofs.sound.sound_task.Statement.{statement}
 use Rattle.run.proofs.sound.sound_task.Tie as tie
 

@@ -16,20 +16,8 @@ abbrev μ-loop : tie.MeasureT-loop
 returns : tie.Need-returns Inv-loop μ-loop
 returns c = λ room. absurd (omega arith)
 
-cast-byte : tie.Need-cast-byte Inv-loop μ-loop
-cast-byte c = omega arith
-
 loop-holds : tie.Need-loop-holds Inv-loop μ-loop
 loop-holds c = (omega arith, omega arith, filled-none _ _ _)
-
-put-requires : tie.Need-put-requires Inv-loop μ-loop
-put-requires c κs = omega (arith, c .before .before .loop .inv .2 .long)
-
-add-s : tie.Need-add-s Inv-loop μ-loop
-add-s c = omega arith
-
-loop-less : tie.Need-loop-less Inv-loop μ-loop
-loop-less c = omega arith
 
 loop-again : tie.Need-loop-again Inv-loop μ-loop
 loop-again c = (omega arith, omega arith, rw (c .before .before .put .ensures) (filled-more _ _ _ _ _ (c .before .before .before .before .before .loop .inv .2) (c .before .before .before .before .before .loop .inv .0) (omega arith)))
@@ -47,11 +35,11 @@ fill-spec =
     Inv-loop
     μ-loop
     returns
-    cast-byte
+    (λ c. omega arith)
     loop-holds
-    put-requires
-    add-s
-    loop-less
+    (λ c κs. omega (arith, c .before .before .loop .inv .2 .long))
+    (λ c. omega arith)
+    (λ c. omega arith)
     loop-again
     same-length
     returns-2)

@@ -19,23 +19,11 @@ loop-holds c = (omega arith, omega arith, handing-none (c .before .args .order .
 hand-one-requires : tie.Need-hand-one-requires Inv-loop μ-loop
 hand-one-requires c κs = (omega arith, c .before .before .before .before .loop .inv .2 .from-before, c .before .before .before .before .before .before .pre .2 (c .before .before .before .before .loop .k) (c .before .before .before .loop-test .taken))
 
-same-length : tie.Need-same-length Inv-loop μ-loop
-same-length c = omega arith
-
 returns : tie.Need-returns Inv-loop μ-loop
 returns c = handed-out (c .before .before .before .before .before .before .before .before .before .before .args .order .now) (c .before .before .before .before .before .before .before .before .before .before .args .dues .now) (c .before .before .before .before .before .before .before .before .before .before .args .lacks .now) (c .before .before .before .before .before .before .before .before .before .before .args .ends .now) (c .before .before .before .before .before .before .before .before .before .before .args .entries .now) (c .before .before .before .before .before .before .before .before .before .before .args .count) _ _ (c .before .before .before .before .before .before .before .before .before .before .pre .1) _ _ _ _ _ (c .before .before .before .before .before .before .before .before .loop .inv .2) (c .before .before .before .before .before .before .before .loop-test .taken) _ _ _ _ (c .before .before .before .hand-one .ensures) (c .if1 .taken)
 
-add-k : tie.Need-add-k Inv-loop μ-loop
-add-k c = omega arith
-
-loop-less : tie.Need-loop-less Inv-loop μ-loop
-loop-less c = omega arith
-
 loop-again : tie.Need-loop-again Inv-loop μ-loop
 loop-again c = (omega arith, omega arith, handing-more (c .before .before .before .before .before .before .before .before .before .before .args .order .now) (c .before .before .before .before .before .before .before .before .before .before .args .dues .now) (c .before .before .before .before .before .before .before .before .before .before .args .lacks .now) (c .before .before .before .before .before .before .before .before .before .before .args .ends .now) (c .before .before .before .before .before .before .before .before .before .before .args .entries .now) (c .before .before .before .before .before .before .before .before .before .before .args .count) _ _ (c .before .before .before .before .before .before .before .before .before .before .pre .1) _ _ _ _ _ (c .before .before .before .before .before .before .before .before .loop .inv .2) (c .before .before .before .before .before .before .before .loop-test .taken) _ _ _ _ (c .before .before .before .hand-one .ensures) (c .if1 .left))
-
-same-length-2 : tie.Need-same-length-2 Inv-loop μ-loop
-same-length-2 c = omega arith
 
 returns-2 : tie.Need-returns-2 Inv-loop μ-loop
 returns-2 c = handed-all (c .before .before .before .args .order .now) (c .before .before .before .args .dues .now) (c .before .before .before .args .lacks .now) (c .before .before .before .args .ends .now) (c .before .before .before .args .entries .now) _ _ _ (c .before .before .before .pre .1) _ _ _ _ _ (omega arith) (c .before .loop .inv .2)
@@ -48,10 +36,10 @@ hand-out-spec =
     μ-loop
     loop-holds
     hand-one-requires
-    same-length
+    (λ c. omega arith)
     returns
-    add-k
-    loop-less
+    (λ c. omega arith)
+    (λ c. omega arith)
     loop-again
-    same-length-2
+    (λ c. omega arith)
     returns-2)

@@ -15,9 +15,6 @@ Inv-loop order periods dues runtimes count cycle ends₀ entries₀ lacks₀ eve
 abbrev μ-loop : tie.MeasureT-loop
 μ-loop order periods dues runtimes count cycle ends₀ entries₀ lacks₀ events₀ releases₀ t₀ next₀ ends entries lacks events releases t next = cycle - t
 
-element-copy-out-next : tie.Need-element-copy-out-next Inv-loop μ-loop
-element-copy-out-next c = omega arith
-
 loop-holds : tie.Need-loop-holds Inv-loop μ-loop
 loop-holds c = (omega arith, λ S. at-start _ _ _ _ _ _ S _ _ (c .before .before .before .before .pre .1))
 
@@ -27,20 +24,11 @@ hand-out-requires c κs = (few _ _ _ _ _ _ (c .before .before .before .before .b
 turn-requires : tie.Need-turn-requires Inv-loop μ-loop
 turn-requires c κs = (few _ _ _ _ _ _ (c .before .before .before .before .before .before .before .before .before .before .before .before .before .before .before .pre .0), omega (arith, c .before .before .before .before .before .before .before .before .before .before .loop .inv .1 (c .before .before .before .before .before .before .before .before .before .before .before .before .before .before .before .pre .0) .ahead), order-small _ _ _ _ _ _ (c .before .before .before .before .before .before .before .before .before .before .before .before .before .before .before .pre .0), numbers-fit _ _ _ _ _ _ (c .before .before .before .before .before .before .before .before .before .before .before .before .before .before .before .pre .0) _ _ _ _ _ _ _ _ (c .before .before .before .before .before .before .before .before .before .before .loop .inv .1 (c .before .before .before .before .before .before .before .before .before .before .before .before .before .before .before .pre .0)) (c .before .before .before .before .before .before .before .before .before .loop-test .taken))
 
-same-length : tie.Need-same-length Inv-loop μ-loop
-same-length c = omega (arith, c .before .before .before .before .before .before .before .before .before .before .before .before .before .before .loop .inv .0)
-
 returns : tie.Need-returns Inv-loop μ-loop
 returns c = λ S. stops _ _ _ _ _ _ S _ _ _ _ _ _ _ _ (c .before .before .before .before .before .before .before .before .before .before .before .before .before .before .loop .inv .1 S) (c .before .before .before .before .before .before .before .before .before .before .before .before .before .loop-test .taken) _ _ _ (c .before .before .before .before .before .before .before .before .before .hand-out .ensures) _ _ _ _ (c .before .before .before .turn .ensures) (c .if1 .taken)
 
-loop-less : tie.Need-loop-less Inv-loop μ-loop
-loop-less c = omega (arith, c .before .before .before .before .before .before .before .before .before .before .before .before .before .before .loop .inv .1 (c .before .before .before .before .before .before .before .before .before .before .before .before .before .before .before .before .before .before .before .pre .0) .ahead)
-
 loop-again : tie.Need-loop-again Inv-loop μ-loop
 loop-again c = (omega (arith, c .before .before .before .before .before .before .before .before .before .before .before .before .before .before .loop .inv .0), λ S. goes-on _ _ _ _ _ _ S _ _ _ _ _ _ _ _ (c .before .before .before .before .before .before .before .before .before .before .before .before .before .before .loop .inv .1 S) (c .before .before .before .before .before .before .before .before .before .before .before .before .before .loop-test .taken) _ _ _ (c .before .before .before .before .before .before .before .before .before .hand-out .ensures) _ _ _ _ (c .before .before .before .turn .ensures) (c .if1 .left) (c .before .before .before .before .before .before .before .before .before .before .before .before .before .before .before .before .before .before .before .pre .2))
-
-same-length-2 : tie.Need-same-length-2 Inv-loop μ-loop
-same-length-2 c = omega (arith, c .before .loop .inv .0)
 
 returns-2 : tie.Need-returns-2 Inv-loop μ-loop
 returns-2 c = λ S. ends-well _ _ _ _ _ _ S _ _ _ _ _ _ _ _ (c .before .loop .inv .1 S) (c .loop-test .left)
@@ -51,13 +39,13 @@ simulate-spec =
     (tie.spec
     Inv-loop
     μ-loop
-    element-copy-out-next
+    (λ c. omega arith)
     loop-holds
     hand-out-requires
     turn-requires
-    same-length
+    (λ c. omega (arith, c .before .before .before .before .before .before .before .before .before .before .before .before .before .before .loop .inv .0))
     returns
-    loop-less
+    (λ c. omega (arith, c .before .before .before .before .before .before .before .before .before .before .before .before .before .before .loop .inv .1 (c .before .before .before .before .before .before .before .before .before .before .before .before .before .before .before .before .before .before .before .pre .0) .ahead))
     loop-again
-    same-length-2
+    (λ c. omega (arith, c .before .loop .inv .0))
     returns-2)

@@ -19,12 +19,6 @@ loop-holds c = (omega arith, c .pre .0, tightest-first (marginAt (c .args .dues 
 tighter-requires : tie.Need-tighter-requires Inv-loop μ-loop
 tighter-requires c κs = (omega (arith, c .before .before .pre .1), omega (arith, c .before .before .pre .1, c .before .loop .inv .2 .below), c .before .before .pre .2 (c .before .loop .k) (omega arith), c .before .before .pre .2 (c .before .loop .best) (omega (arith, c .before .loop .inv .2 .below)))
 
-add-k : tie.Need-add-k Inv-loop μ-loop
-add-k c = omega arith
-
-loop-less : tie.Need-loop-less Inv-loop μ-loop
-loop-less c = omega arith
-
 loop-again : tie.Need-loop-again Inv-loop μ-loop
 loop-again c = (omega arith, omega arith, tightest-more (marginAt (c .before .before .before .args .dues .now) (c .before .before .before .args .ends .now)) _ _ _ (c .before .before .loop .inv .2) (c .tighter .ensures))
 
@@ -34,4 +28,12 @@ returns c = let end : c .before .loop .k ≡ c .before .before .args .count = om
 pub tightest-spec : {M : Type 1} → statement M
 tightest-spec =
     tie.close
-    (tie.spec Inv-loop μ-loop loop-holds tighter-requires add-k loop-less loop-again returns)
+    (tie.spec
+    Inv-loop
+    μ-loop
+    loop-holds
+    tighter-requires
+    (λ c. omega arith)
+    (λ c. omega arith)
+    loop-again
+    returns)

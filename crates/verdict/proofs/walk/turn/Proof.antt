@@ -1,6 +1,5 @@
 -- `verdict::walk::turn` meets its contract: the tasks before place k have turned, and none of them was late.
 use Prim.Native.Nat.{_≤_, _-_}
-use mathlib.Core.Path.{refl}
 use native.Mathlib.Omega.{arith}
 use Rattle.verdict.proofs.Turning.{Turning, turning-none, still-fits, turning-more, late-found, turning-all}
 use Rattle.verdict.proofs.walk.turn.Statement.{statement}
@@ -20,32 +19,8 @@ loop-holds c = (omega arith, turning-none (c .args .order .now) (c .args .period
 turn-one-requires : tie.Need-turn-one-requires Inv-loop μ-loop
 turn-one-requires c κs = (omega arith, c .before .before .before .before .before .pre .1, still-fits (c .before .before .before .before .before .args .order .now) (c .before .before .before .before .before .args .periods .now) (c .before .before .before .before .before .args .dues .now) (c .before .before .before .before .before .args .runtimes .now) (c .before .before .before .before .before .args .releases .now) (c .before .before .before .before .before .args .events .now) (c .before .before .before .before .before .args .lacks .now) _ _ _ _ _ _ _ (c .before .before .before .before .loop .inv .1) (c .before .before .before .before .before .pre .3 (c .before .before .before .before .loop .k) (c .before .before .before .loop-test .taken)))
 
-mul-t17 : tie.Need-mul-t17 Inv-loop μ-loop
-mul-t17 c = omega (arith, c .before .before .before .before .before .before .before .pre .0)
-
-element-copy-out-t20 : tie.Need-element-copy-out-t20 Inv-loop μ-loop
-element-copy-out-t20 c = omega (arith, c .before .before .before .before .before .before .before .pre .0)
-
-add-t21 : tie.Need-add-t21 Inv-loop μ-loop
-add-t21 c = omega (arith, c .before .before .before .before .before .before .before .before .pre .2 (c .before .before .before .before .before .before .before .loop .k) (c .before .before .before .before .before .before .loop-test .taken))
-
-mul-t22 : tie.Need-mul-t22 Inv-loop μ-loop
-mul-t22 c = omega (arith, c .before .before .before .before .before .before .before .before .pre .0)
-
-element-copy-out-t25 : tie.Need-element-copy-out-t25 Inv-loop μ-loop
-element-copy-out-t25 c = omega (arith, c .before .before .before .before .before .before .before .before .pre .0)
-
 returns : tie.Need-returns Inv-loop μ-loop
-returns c = late-found (c .before .before .before .before .before .before .before .before .before .args .order .now) (c .before .before .before .before .before .before .before .before .before .args .periods .now) (c .before .before .before .before .before .before .before .before .before .args .dues .now) (c .before .before .before .before .before .before .before .before .before .args .runtimes .now) (c .before .before .before .before .before .before .before .before .before .args .releases .now) (c .before .before .before .before .before .before .before .before .before .args .events .now) (c .before .before .before .before .before .before .before .before .before .args .lacks .now) _ _ _ _ _ _ _ (c .before .before .before .before .before .before .before .before .loop .inv .1) _ _ _ _ (c .before .before .before .turn-one .ensures) _ _ (c .before .before .before .before .before .before .before .loop-test .taken) (c .before .before .if1 .taken) refl refl
-
-lesser-requires : tie.Need-lesser-requires Inv-loop μ-loop
-lesser-requires c κs = tt
-
-add-k : tie.Need-add-k Inv-loop μ-loop
-add-k c = omega arith
-
-loop-less : tie.Need-loop-less Inv-loop μ-loop
-loop-less c = omega arith
+returns c = late-found (c .before .before .before .before .before .before .before .before .before .args .order .now) (c .before .before .before .before .before .before .before .before .before .args .periods .now) (c .before .before .before .before .before .before .before .before .before .args .dues .now) (c .before .before .before .before .before .before .before .before .before .args .runtimes .now) (c .before .before .before .before .before .before .before .before .before .args .releases .now) (c .before .before .before .before .before .before .before .before .before .args .events .now) (c .before .before .before .before .before .before .before .before .before .args .lacks .now) _ _ _ _ _ _ _ (c .before .before .before .before .before .before .before .before .loop .inv .1) _ _ _ _ (c .before .before .before .turn-one .ensures) (c .before .before .before .before .before .before .before .loop-test .taken) (c .before .before .if1 .taken)
 
 loop-again : tie.Need-loop-again Inv-loop μ-loop
 loop-again c = (omega arith, turning-more (c .before .before .before .before .before .before .before .before .args .order .now) (c .before .before .before .before .before .before .before .before .args .periods .now) (c .before .before .before .before .before .before .before .before .args .dues .now) (c .before .before .before .before .before .before .before .before .args .runtimes .now) (c .before .before .before .before .before .before .before .before .args .releases .now) (c .before .before .before .before .before .before .before .before .args .events .now) (c .before .before .before .before .before .before .before .before .args .lacks .now) _ _ _ _ _ _ _ (c .before .before .before .before .before .before .before .loop .inv .1) _ _ _ _ (c .before .before .turn-one .ensures) _ (c .before .if1 .left) (c .lesser .ensures))
@@ -61,14 +36,14 @@ turn-spec =
     μ-loop
     loop-holds
     turn-one-requires
-    mul-t17
-    element-copy-out-t20
-    add-t21
-    mul-t22
-    element-copy-out-t25
+    (λ c. omega (arith, c .before .before .before .before .before .before .before .pre .0))
+    (λ c. omega (arith, c .before .before .before .before .before .before .before .pre .0))
+    (λ c. omega (arith, c .before .before .before .before .before .before .before .before .pre .2 (c .before .before .before .before .before .before .before .loop .k) (c .before .before .before .before .before .before .loop-test .taken)))
+    (λ c. omega (arith, c .before .before .before .before .before .before .before .before .pre .0))
+    (λ c. omega (arith, c .before .before .before .before .before .before .before .before .pre .0))
     returns
-    lesser-requires
-    add-k
-    loop-less
+    (λ c κs. tt)
+    (λ c. omega arith)
+    (λ c. omega arith)
     loop-again
     returns-2)

@@ -1,0 +1,3 @@
+-- What the program prints for an input, and that it prints no other.
+pub mod Output
+pub mod Determined

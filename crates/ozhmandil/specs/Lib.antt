@@ -1,3 +1,0 @@
--- What the program prints.
-pub mod Output
-pub mod Determined
