@@ -18,7 +18,7 @@ use contract.Running.{GhostRules, Running, givenOf, tables, tablesOf}
 use sound.WpLaws.{fmOf}
 use types.Kit.{Given, Item, nth, ‵, raw, _⊛_, some, later, Goal, Seq, Sq, Step, step, Post, allocs, params′, runs, atRet, lands, frees, _$_, _∵_, !, qed, move, use0, use1, use2, split, join, pick, await, updating, now as at-once, show, frame, done}
 use types.Run.{Opd, Opds, look, forget, stop, from, load, enter, free1}
-use denote.RattleType.{flat, owns}
+use denote.RattleType.{RattleType, flat, owns}
 use denote.Laws.{Is, Ises, Are, Spells, Tellss, valss, shows}
 use denote.Signature.{typeAt, typesAt}
 use denote.Steps.{said, peeks, heard}
@@ -37,21 +37,24 @@ module _ {M : Type 1} {𝓤 : URA M} {H : Heap 𝓤} {A : Atoms 𝓤} (W : Given
   abbrev pub Keeps : Tables 𝓤 H → Name → Type 1
   Keeps 𝓣 k = Triple 𝓤 (𝓣 .C k) Promise
 
-  -- How machine values are spelled is given for each parameter.
+  -- the parameters' types, and how their machine values are spelled
+  abbrev Rs : Lfts (T .signature .lifetimes) → List RattleType
+  Rs κs = typesAt (T .signature .params) κs
+
   abbrev pub Spelling : Type 0
-  Spelling = (κs : Lfts (T .signature .lifetimes)) → Spells (typesAt (T .signature .params) κs)
+  Spelling = (κs : Lfts (T .signature .lifetimes)) → Spells (Rs κs)
 
   -- A walk goes from the tokens, what the parameters own and what is required, through the code, to what is promised.
   abbrev pub Walk : Tables 𝓤 H → Fn → Spelling → Type 1
   Walk 𝓣 f sp = (κs : Lfts (T .signature .lifetimes)) (qs : Shares (T .signature .lifetimes)) (bounds : AllOutlive (T .signature .lifetimes) (T .signature .outlives) κs) (a : Args (T .signature) κs) (g : c κs a .ghost)
-      → Are (typesAt (T .signature .params) κs) (Ises (typesAt (T .signature .params) κs)) a (valss (typesAt (T .signature .params) κs) (sp κs) a)
-      → Sq W (raw (alive 𝓤 H A (T .signature) κs qs) ∷ ‵ (owns (typesAt (T .signature .params) κs) a (valss (typesAt (T .signature .params) κs) (sp κs) a)) ∷ raw (c κs a .requires g) ∷ [])
-      (allocs (f .locals) (λ E. params′ E (flat (typesAt (T .signature .params) κs) (valss (typesAt (T .signature .params) κs) (sp κs) a)) (runs (𝓣 .C) (𝓣 .Λ) E (f .body) (atRet E (Promise .post ((κs, qs, bounds, a, valss (typesAt (T .signature .params) κs) (sp κs) a), g))))))
+      → Are (Rs κs) (Ises (Rs κs)) a (valss (Rs κs) (sp κs) a)
+      → Sq W (raw (alive 𝓤 H A (T .signature) κs qs) ∷ ‵ (owns (Rs κs) a (valss (Rs κs) (sp κs) a)) ∷ raw (c κs a .requires g) ∷ [])
+      (allocs (f .locals) (λ E. params′ E (flat (Rs κs) (valss (Rs κs) (sp κs) a)) (runs (𝓣 .C) (𝓣 .Λ) E (f .body) (atRet E (Promise .post ((κs, qs, bounds, a, valss (Rs κs) (sp κs) a), g))))))
 
-  pub walked : (𝓣 : Tables 𝓤 H) (f : Fn) (sp : Spelling) → ((κs : Lfts (T .signature .lifetimes)) → Tellss (typesAt (T .signature .params) κs) (Ises (typesAt (T .signature .params) κs)) (sp κs)) → Walk 𝓣 f sp → Triple 𝓤 (WpFn 𝓤 H (𝓣 .C) (𝓣 .Λ) f) Promise
+  pub walked : (𝓣 : Tables 𝓤 H) (f : Fn) (sp : Spelling) → ((κs : Lfts (T .signature .lifetimes)) → Tellss (Rs κs) (Ises (Rs κs)) (sp κs)) → Walk 𝓣 f sp → Triple 𝓤 (WpFn 𝓤 H (𝓣 .C) (𝓣 .Λ) f) Promise
   walked 𝓣 f sp tells walk y =
       let R : SProp 𝓤 = c (y .0 .0) (y .0 .3) .requires (y .1) in
-      let Q : Vals (T .signature) (y .0 .0) → SProp 𝓤 = λ us. WpFn 𝓤 H (𝓣 .C) (𝓣 .Λ) f (flat (typesAt (T .signature .params) (y .0 .0)) us) (Promise .post ((y .0 .0, y .0 .1, y .0 .2, y .0 .3, us), y .1)) in
+      let Q : Vals (T .signature) (y .0 .0) → SProp 𝓤 = λ us. WpFn 𝓤 H (𝓣 .C) (𝓣 .Λ) f (flat (Rs (y .0 .0)) us) (Promise .post ((y .0 .0, y .0 .1, y .0 .2, y .0 .3, us), y .1)) in
       via 𝓤 (sep 𝓤 R (wand 𝓤 R (Q (y .0 .4))))
       (via 𝓤 (sep 𝓤 (wand 𝓤 R (Q (y .0 .4))) R)
       (monoL 𝓤 R (said 𝓤 H A (T .signature) (y .0 .0) (y .0 .1) (sp (y .0 .0)) (tells (y .0 .0)) (y .0 .3) (λ us. wand 𝓤 R (Q us)) (y .0 .4) (λ are. wandI 𝓤 _ R _

@@ -1,20 +1,19 @@
 -- Places beyond the task count do not matter: two lists of one count whose tasks are the same give the same bounds, verdict, table and state of a start.
 use mathlib.Core.Path.{_≡_, refl, sym, ap, _∙_}
-use mathlib.Core.Bool.{Bool, false, _&&_, _||_}
+use mathlib.Core.Bool.{false, _&&_, _||_}
 use mathlib.Core.List.{List}
-use mathlib.Core.Logic.{⊎-elim}
 use Prim.Native.Nat.{ℕ, zero, suc, _+_, _-_, _/_, _%_, _≤_, _<_}
 use native.Mathlib.Omega.{arith}
 use lib.Dec.{leb, ltb, eqb}
 use lib.IntN.{pos, subℕ}
 use lib.ListN.{replicate}
 use Rattle.basis.specs.Bytes.{overwrite, overwrite-same}
-use Rattle.basis.specs.Choose.{choose, choose-either}
+use Rattle.basis.specs.Choose.{choose}
 use Rattle.basis.specs.Least.{least}
 use Rattle.basis.specs.Sum.{sum-ext}
 use Rattle.basis.specs.Answer.{Answer, refusal, none, _orElse_, firstFound}
-use Rattle.plan.specs.Plan.{Plan, job, age, keyIn, wants, pick, gets, had, entry, table, given, first, ranksBefore, IsFirst, NoneWants, FirstTask}
-use Rattle.plan.specs.Rank.{first-law, first-ext}
+use Rattle.plan.specs.Plan.{Plan, job, age, keyIn, wants, pick, gets, had, entry, table, given, ranksBefore}
+use Rattle.plan.specs.Rank.{first-ext}
 use Rattle.plan.specs.Run.{had-first, had-next}
 use Rattle.tasks.specs.declared.Task.{Task}
 use Rattle.tasks.specs.declared.TaskList.{TaskList}
@@ -27,26 +26,12 @@ use Rattle.tasks.specs.Kept.{kept-tells}
 use Rattle.verdict.specs.declared.Late.{Late}
 use Rattle.verdict.specs.declared.Verdict.the-variants.{Accepted, Refused}
 use Rattle.verdict.specs.Lateness.{received, missing, missedAt, lateBy, earlier, lateness}
+use Rattle.verdict.specs.Deadlines.{missed-lacks}
+use Rattle.verdict.specs.Tightest.{tightest-law, tightest-only}
 use Rattle.verdict.specs.Margin.{firstEnd, margin, tighter, tightest}
 use Rattle.verdict.specs.Verdict.{judged, verdictFrom, verdictOf}
 use Rattle.start.specs.Start.{startState}
 use Rattle.run.specs.declared.Mode.{Mode}
-
--- ---- what is found is below the count
-first-most : (key wants : ℕ → ℕ) (n : ℕ) → first key wants n ≤ n
-unfolding IsFirst
-first-most key wants n =
-    ⊎-elim
-    (λ (h : NoneWants wants n (first key wants n)). omega (arith, h .idle))
-    (λ (h : FirstTask key wants n (first key wants n)). omega (arith, h .is, h .below))
-    (first-law key wants n)
-
-tightest-below : (P : Plan) (n : ℕ) → 0 < n → tightest P n < n
-unfolding tightest
-tightest-below P zero p = absurd (omega arith)
-tightest-below P (suc zero) p = choose-either (λ (x : ℕ). x < 1) _ 0 0 p p
-tightest-below P (suc (suc n)) p =
-    choose-either (λ (x : ℕ). x < suc (suc n)) _ (suc n) (tightest P (suc n)) (omega arith) (omega (arith, tightest-below P (suc n) (omega arith)))
 
 first-found-same : (f g : ℕ → Answer) (n : ℕ) → ((i : ℕ) → i < n → f i ≡ g i) → firstFound f n ≡ firstFound g n
 unfolding firstFound
@@ -83,10 +68,9 @@ module _ (ts us : List Task) (n : ℕ) (same : (i : ℕ) → i < n → taskAt ts
   unfolding entry age planOf
   had-same zero i li = had-first P (P .runtime) i ∙ sym (had-first Q (Q .runtime) i)
   had-same (suc t) i li =
-      let step : choose (eqb (age P i (suc t)) 0) 0 (had P (P .runtime) t i + gets (entry P (P .runtime) t) i) ≡ choose (eqb (age Q i (suc t)) 0) 0 (had Q (Q .runtime) t i + gets (entry Q (Q .runtime) t) i) =
-      λ j. choose (eqb (suc t % same i li j .period) 0) 0 (had-same t i li j + gets (pick-same t (had P (P .runtime) t) (had Q (Q .runtime) t) (had-same t) j) i)
-      in
-      had-next P (P .runtime) i li t ∙ step ∙ sym (had-next Q (Q .runtime) i li t)
+      had-next P (P .runtime) i li t
+      ∙ (λ j. choose (eqb (suc t % same i li j .period) 0) 0 (had-same t i li j + gets (pick-same t (had P (P .runtime) t) (had Q (Q .runtime) t) (had-same t) j) i))
+      ∙ sym (had-next Q (Q .runtime) i li t)
 
   entry-same : (t : ℕ) → entry P (P .runtime) t ≡ entry Q (Q .runtime) t
   unfolding entry
@@ -101,15 +85,15 @@ module _ (ts us : List Task) (n : ℕ) (same : (i : ℕ) → i < n → taskAt ts
   unfolding missedAt planOf
   missed-same t = first-ext (keyIn P t) (keyIn Q t) (missing P t) (missing Q t) n (key-same t) (missing-same t)
 
-  late-same : (t e : ℕ) → e ≤ n → lateBy (missing P t) e ≡ lateBy (missing Q t) e
+  late-same : (t e : ℕ) → ((i : ℕ) → e ≡ suc i → i < n) → lateBy (missing P t) e ≡ lateBy (missing Q t) e
   unfolding lateBy
   late-same t zero h = refl
-  late-same t (suc i) h = λ j. record { task = suc i; short = missing-same t i h j }
+  late-same t (suc i) h = λ j. record { task = suc i; short = missing-same t i (h i refl) j }
 
   lateness-same : (t : ℕ) → lateness P t ≡ lateness Q t
-  unfolding lateness missedAt planOf
+  unfolding lateness planOf
   lateness-same zero = refl
-  lateness-same (suc t) = λ j. earlier (lateness-same t j) ((late-same t (missedAt P t) (first-most (keyIn P t) (missing P t) n) ∙ ap (lateBy (missing Q t)) (missed-same t)) j)
+  lateness-same (suc t) = λ j. earlier (lateness-same t j) ((late-same t (missedAt P t) (λ i e. missed-lacks P t i e .0) ∙ ap (lateBy (missing Q t)) (missed-same t)) j)
 
   -- ---- margins
   given-same : (i s k : ℕ) → given P (P .runtime) i s k ≡ given Q (Q .runtime) i s k
@@ -126,13 +110,11 @@ module _ (ts us : List Task) (n : ℕ) (same : (i : ℕ) → i < n → taskAt ts
       ltb (margin-same i li j) (margin-same k lk j)
       || (eqb (margin-same i li j) (margin-same k lk j) && (ltb (key-same 0 i li j) (key-same 0 k lk j) || (eqb (key-same 0 i li j) (key-same 0 k lk j) && ltb i k)))
 
-  tightest-same : (k : ℕ) → k ≤ n → tightest P k ≡ tightest Q k
-  unfolding tightest
-  tightest-same zero h = refl
-  tightest-same (suc zero) h = refl
-  tightest-same (suc (suc k)) h =
-      ap (λ (b : Bool). choose (eqb (suc k) 0 || b) (suc k) (tightest P (suc k))) (tighter-same (suc k) (tightest P (suc k)) h (omega (arith, tightest-below P (suc k) (omega arith))))
-      ∙ ap (λ (x : ℕ). choose (eqb (suc k) 0 || tighter Q (suc k) x) (suc k) x) (tightest-same (suc k) (omega arith))
+  tightest-same : 0 < n → tightest P n ≡ tightest Q n
+  unfolding planOf
+  tightest-same p =
+      let best = tightest-law P n p (omega arith) in
+      tightest-only Q _ _ (record { is-below = best .is-below; none-tighter = λ k h. sym (tighter-same k (tightest P n) h (best .is-below)) ∙ best .none-tighter k h }) (tightest-law Q n p (omega arith))
 
   -- ---- bounds
   memory-same : (k : ℕ) → k ≤ n → memorySum ts k ≡ memorySum us k
@@ -166,8 +148,8 @@ module _ (ts us : List Task) (n : ℕ) (same : (i : ℕ) → i < n → taskAt ts
   judged-same : 0 < n → (cycle jobs : ℕ) (late : Late) → judged P cycle jobs late ≡ judged Q cycle jobs late
   unfolding judged planOf
   judged-same p cycle jobs late =
-      let best : tightest P n ≡ tightest Q n = tightest-same n (omega arith) in
-      let least-margin : margin P (tightest P n) ≡ margin Q (tightest Q n) = margin-same (tightest P n) (tightest-below P n p) ∙ ap (margin Q) best in
+      let best : tightest P n ≡ tightest Q n = tightest-same p in
+      let least-margin : margin P (tightest P n) ≡ margin Q (tightest Q n) = margin-same (tightest P n) (tightest-law P n p (omega arith) .is-below) ∙ ap (margin Q) best in
       λ j. choose (eqb (late .task) 0) (Accepted cycle jobs (suc (best j)) (pos (least-margin j))) (Refused 7 (late .task) (subℕ 0 (late .short)))
 
   from-same : (supply : ℕ) (b : Bounds) → boundsOf l supply ≡ b → verdictFrom l b ≡ verdictFrom m b

@@ -25,17 +25,10 @@ pub record Alike (k l : TaskList) : Type 0 where
   pub count : k .count ≡ l .count
   pub tasks : (i : ℕ) → i < l .count → taskAt (k .tasks) i ≡ taskAt (l .tasks) i
 
-pub itself : (l : TaskList) → Alike l l
-itself l = record { count = refl; tasks = λ i h. refl }
-
 -- The list filled from its own places, as many as it counts.
-pub first-alike : (l k : TaskList) → l .count ≤ 16 → k ≡ filled (l .tasks) (l .count) (l .count) → Alike k l
+pub first-alike : (l : TaskList) → l .count ≤ 16 → Alike (filled (l .tasks) (l .count) (l .count)) l
 unfolding filled taskAt
-first-alike l k few e =
-    record {
-      count = ap (λ (m : TaskList). m .count) e;
-      tasks = λ i h. ap (λ (m : TaskList). taskAt (m .tasks) i) e ∙ overwrite-at (taskAt (l .tasks)) (replicate 16 noTask) noTask (l .count) i h (omega (arith, length-replicate 16 noTask));
-    }
+first-alike l few = record { count = refl; tasks = λ i h. overwrite-at (taskAt (l .tasks)) (replicate 16 noTask) noTask (l .count) i h (omega (arith, length-replicate 16 noTask)) }
 
 -- ---- the answers on lists alike
 module _ (k l : TaskList) (a : Alike k l) where

@@ -4,7 +4,7 @@ use mathlib.Core.List.{List, []}
 use Prim.Native.Nat.{ℕ, suc, _≤_, _<_}
 use native.Mathlib.Omega.{arith}
 use lib.ListN.{length, replicate, set, take, getD-replicate, List·getD-eq-default}
-use lib.Seq.{getD-take}
+use lib.Seq.{getD-take, length-take-le}
 use Rattle.basis.specs.Bytes.{overwrite, overwrite-same, overwrite-rest}
 use Rattle.tasks.specs.declared.Task.{Task}
 use Rattle.tasks.specs.declared.TaskList.{TaskList}
@@ -40,9 +40,13 @@ filled-all ts n h =
     let places = overwrite-rest (taskAt ts) (replicate 16 noTask) noTask n 16 (h .places) (λ i a b. List·getD-eq-default ts noTask (h .all i a b) ∙ sym (getD-replicate 16 i noTask noTask b)) in
     λ j. record { tasks = sym places j; count = length ts }
 
--- The list that the first n of the records make.
-pub filled-first : (ts : List Task) (n : ℕ) → length (take n ts) ≡ n → n ≤ 16 → listOf (take n ts) ≡ filled ts n n
+pub taken-length : (n : ℕ) (ts : List Task) → length ts ≡ 16 → n ≤ 16 → length (take n ts) ≡ n
+taken-length n ts all few = length-take-le n ts (omega (arith, all))
+
+-- The list that the first n of sixteen records make.
+pub filled-first : (ts : List Task) (n : ℕ) → length ts ≡ 16 → n ≤ 16 → listOf (take n ts) ≡ filled ts n n
 unfolding filled taskAt
-filled-first ts n e few =
+filled-first ts n all few =
+    let e = taken-length n ts all few in
     sym (filled-all (take n ts) n (record { records = omega (arith, e); places = few; all = λ i a b. omega (arith, e) }))
     ∙ (λ j. record { tasks = overwrite-same (taskAt (take n ts)) (taskAt ts) (replicate 16 noTask) n (λ i h. getD-take n ts i noTask h) j; count = e j })

@@ -1,10 +1,9 @@
 // The verdict, table building and start over a task list that is lent as a run of records: thin walks that copy the records
-// into a list for the covered core. What takes a list by value lends its records and has them copied the same way.
+// into a list for the covered core. What takes a list by value lends its records, so that covered code comes this way too.
 ghost use mathlib.Core.Path.{_≡_};
 ghost use mathlib.Core.List.{[]};
 ghost use Prim.Native.Nat.{_<_, _≤_};
 ghost use Rattle.lent.specs.Shapes.{filled, withTask, Held};
-ghost use Rattle.lent.specs.Lent.{Alike};
 ghost use Rattle.tasks.specs.List.{listOf};
 ghost use Rattle.verdict.specs.Verdict.{verdictOf};
 ghost use Rattle.verdict.specs.Table.{Built};
@@ -86,44 +85,71 @@ pub fn start_lent(tasks: &[Task], supply: u32, asked: Asked, clock: u32, log: &m
     start::start(copied(tasks), supply, asked, clock, log)
 }
 
-// The first so many of sixteen places, lent as a run of records and copied.
-fn first_copied(tasks: [Task; 16], count: usize) -> TaskList
+// The verdict on the first so many of sixteen places, which are lent for it; likewise `build_first` and `start_first` below.
+fn judge_first(tasks: [Task; 16], count: usize, supply: u32) -> Verdict
     requires { ⌜ count ≤ 16 ⌝ }
-    ensures { λ r. ⌜ r ≡ filled tasks count count ⌝ }
+    ensures { λ r. ⌜ r ≡ verdictOf (filled tasks count count) supply ⌝ }
 {
-    copied(&tasks[..count])
+    judge_lent(&tasks[..count], supply)
 }
 
-// The list as its records make it anew, lent and copied. A count above 16 names more records than there are places: none is lent.
-fn relisted(list: TaskList) -> TaskList
-    ensures { λ r. ⌜ Alike r list ⌝ }
+fn build_first(tasks: [Task; 16], count: usize, supply: u32, table: &mut [u8]) -> Verdict
+    requires { ⌜ count ≤ 16 ⌝ }
+    ensures { λ r. ⌜ Built (filled tasks count count) supply (now (table .entry)) (now (table .exit)) r ⌝ }
+{
+    build_lent(&tasks[..count], supply, table)
+}
+
+fn start_first(
+    tasks: [Task; 16],
+    count: usize,
+    supply: u32,
+    asked: Asked,
+    clock: u32,
+    log: &mut [u8],
+) -> Started
+    requires { ⌜ count ≤ 16 ⌝ }
+    ensures { λ r. ⌜ Begins (filled tasks count count) supply asked clock (now (log .entry)) (now (log .exit)) r ⌝ }
+{
+    start_lent(&tasks[..count], supply, asked, clock, log)
+}
+
+// The verdict on a list by value, whose records are lent for it. A count above 16 names more records than there are places:
+// none is lent; likewise below.
+pub fn judge_list(list: TaskList, supply: u32) -> Verdict
+    ensures { λ r. ⌜ r ≡ verdictOf list supply ⌝ }
 {
     let tasks = list.tasks;
     let count = list.count;
     if count <= 16 {
-        first_copied(tasks, count)
+        judge_first(tasks, count, supply)
     } else {
-        list
+        verdict::judge(list, supply)
     }
-}
-
-// The verdict on a list by value, whose records are lent for it.
-pub fn judge_list(list: TaskList, supply: u32) -> Verdict
-    ensures { λ r. ⌜ r ≡ verdictOf list supply ⌝ }
-{
-    verdict::judge(relisted(list), supply)
 }
 
 // Building the table of a list by value, whose records are lent for it.
 pub fn build_list(list: TaskList, supply: u32, table: &mut [u8]) -> Verdict
     ensures { λ r. ⌜ Built list supply (now (table .entry)) (now (table .exit)) r ⌝ }
 {
-    verdict::build(relisted(list), supply, table)
+    let tasks = list.tasks;
+    let count = list.count;
+    if count <= 16 {
+        build_first(tasks, count, supply, table)
+    } else {
+        verdict::build(list, supply, table)
+    }
 }
 
 // Starting a run of a list by value, whose records are lent for it.
 pub fn start_list(list: TaskList, supply: u32, asked: Asked, clock: u32, log: &mut [u8]) -> Started
     ensures { λ r. ⌜ Begins list supply asked clock (now (log .entry)) (now (log .exit)) r ⌝ }
 {
-    start::start(relisted(list), supply, asked, clock, log)
+    let tasks = list.tasks;
+    let count = list.count;
+    if count <= 16 {
+        start_first(tasks, count, supply, asked, clock, log)
+    } else {
+        start::start(list, supply, asked, clock, log)
+    }
 }

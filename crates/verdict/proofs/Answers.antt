@@ -5,7 +5,7 @@ use mathlib.Core.Logic.{⊎-elim}
 use Prim.Native.Nat.{ℕ, suc, _≤_, _<_}
 use native.Mathlib.Omega.{arith}
 use lib.ListN.{length}
-use Rattle.basis.specs.Bytes.{at, overwrite, overwrite-at, overwrite-same}
+use Rattle.basis.specs.Bytes.{at, overwrite, overwrite-same}
 use Rattle.basis.specs.Choose.{choose-yes, choose-no, eq-or-ne}
 use Rattle.plan.specs.Plan.{table}
 use Rattle.tasks.specs.declared.TaskList.{TaskList}
@@ -23,7 +23,7 @@ use Rattle.verdict.specs.declared.Verdict.the-variants.{Accepted, Refuse
 use Rattle.verdict.specs.Margin.{margin, tightest}
 use Rattle.verdict.specs.Verdict.{judged, verdictFrom, verdictOf}
 use Rattle.verdict.specs.Table.{fitted, tabled, Built}
-use Rattle.verdict.specs.Settling.{Settled}
+use Rattle.verdict.specs.Settling.{Concluded, Settled}
 
 abbrev pub shown : (l : TaskList) (cycle : ℕ) → Bounded l → cycle ≡ cycleOf l → (order periods dues runtimes : List ℕ) → Shows (planOf l) order periods dues runtimes → Shown (l .count) cycle order periods dues runtimes
 shown l cycle B C order periods dues runtimes W = record { list = l; bounded = B; count-is = refl; cycle-is = C; shows = W }
@@ -66,16 +66,16 @@ module _ (l : TaskList) (cycle jobs : ℕ) (r : Verdict) (A : r ≡ judged (plan
     }
 
     -- the entries written aside are copied
-    pub settled-whole : (c j task : ℕ) (m : ℤ) → r ≡ Accepted c j task m → cycle ≤ length old → (entries₀ entries₁ new : List ℕ) → cycle ≤ length entries₀ → (late-task ≡ 0 → cycle ≤ length entries₀ → entries₁ ≡ overwrite (table (planOf l)) cycle entries₀)
-        → new ≡ overwrite (at entries₁) cycle old → Settled l cycle jobs old new r
+    pub settled-whole : (c j task : ℕ) (m : ℤ) → r ≡ Accepted c j task m → cycle ≤ length old → (room : ℕ) (entries new : List ℕ) → cycle ≤ room → Concluded l cycle jobs room entries r
+        → new ≡ overwrite (at entries) cycle old → Settled l cycle jobs old new r
     unfolding fitted tabled
-    settled-whole c j task m q h entries₀ entries₁ new room E e =
+    settled-whole c j task m q h room entries new enough C e =
         let none = accepted-on-time c j task m q in
         record {
           answer = A;
           bytes =
               e
-              ∙ overwrite-same (at entries₁) (table (planOf l)) old cycle (λ i li. ap (λ (x : List ℕ). at x i) (E none room) ∙ overwrite-at (table (planOf l)) entries₀ 0 cycle i li (omega arith))
+              ∙ overwrite-same (at entries) (table (planOf l)) old cycle (C .entries none enough)
               ∙ ap (λ (x : Verdict). tabled l x old) (sym (choose-no _ _ _ (le-ltb (length old) cycle h)))
               ∙ ap (λ (x : Verdict). tabled l (fitted x (length old)) old) (sym (is-accepted none));
         }

@@ -6,8 +6,7 @@ use Prim.Native.Nat.{ℕ, suc, _+_, _-_, _/_, _≤_, _<_, _∣_}
 use native.Mathlib.Omega.{arith}
 use native.Mathlib.Nat.{div-lt-iff-lt-mul, div-mul-cancel, mul-le-mul-right}
 use lib.ListN.{length, replicate, length-replicate}
-use lib.Seq.{ext-getD}
-use Rattle.basis.specs.Bytes.{at, overwrite, overwrite-length, overwritten-length, overwrite-at, overwrite-kept, zeros}
+use Rattle.basis.specs.Bytes.{at, overwrite-at, zeros}
 use Rattle.basis.specs.Choose.{le-or-lt, choose-yes, choose-no}
 use Rattle.plan.specs.Plan.{Plan, Sound, Monotonic, release, job, age, keyIn, table, deadline, OnTime, OnTimeUpTo}
 use Rattle.plan.specs.Rank.{not-before-key}
@@ -23,7 +22,7 @@ use Rattle.verdict.specs.declared.walk.Turned.{Turned}
 use Rattle.verdict.specs.Lateness.{lateness}
 use Rattle.verdict.specs.Deadlines.{late-stays, nothing-late, late-tells, missed-lacks, missing-is}
 use Rattle.verdict.specs.Ends.{endBy, end-none, end-is-first, end-within}
-use Rattle.verdict.specs.Shapes.{Bounded, HandedOut, Fits, missingOf, eventThen, noneLate, OneLate, AllTurned, TurnedAll, marginAt, TightestAt}
+use Rattle.verdict.specs.Shapes.{Bounded, HandedOut, Fits, Tabled, missingOf, eventThen, noneLate, OneLate, AllTurned, TurnedAll, marginAt, TightestAt}
 use Rattle.verdict.specs.Walk.{Shows, Shown, Holds, Walked, entry-turn, none-late-then, one-late-then, holds-next}
 use native.Mathlib.Numerals.{add-one}
 use lib.IntN.{ℤ, pos, subℕ}
@@ -35,14 +34,14 @@ use Rattle.verdict.specs.Tightest.{Tightest, tightest-law, tightest-only
 use Rattle.verdict.specs.Settling.{Concluded}
 
 -- Before slice t, with the next event of all at `next`, nothing is late, and the entries so far are the table's.
-pub record At (P : Plan) (order table₀ : List ℕ) (cycle t next : ℕ) (lacks′ releases events ends table₁ : List ℕ) : Type 0 where
+pub record At (P : Plan) (order : List ℕ) (room cycle t next : ℕ) (lacks′ releases events ends table₁ : List ℕ) : Type 0 where
   pub holds : Holds P t order lacks′ releases events ends
   pub on-time : noneLate ≡ lateness P t
   pub ahead : t < next
   pub quiet : (k : ℕ) → k < P .count → next ≤ at events k
   pub within : t ≤ cycle
   pub next-within : t < cycle → next ≤ cycle
-  pub entries-are : cycle ≤ length table₀ → table₁ ≡ overwrite (table P) t table₀
+  pub entries-are : cycle ≤ room → Tabled (table P) t room table₁
 
 module _ (n cycle : ℕ) (order periods dues runtimes : List ℕ) (S : Shown n cycle order periods dues runtimes) where
   abbrev l : TaskList
@@ -125,9 +124,9 @@ module _ (n cycle : ℕ) (order periods dues runtimes : List ℕ) (S : Shown n c
   event-is-due : (k : ℕ) → k < P .count → at dues k ≡ nextEvent P (at order k) 0
   event-is-due k lk = omega (arith, W .due-is k lk, event-open P (at order k) 0 (young k lk), released-at-0 k lk)
 
-  pub at-start : (ends table₀ : List ℕ) → ends ≡ replicate 16 0 → At P order table₀ cycle 0 (at dues 0) runtimes (replicate 16 0) dues ends table₀
-  unfolding lateness overwrite
-  at-start ends table₀ e =
+  pub at-start : (ends entries : List ℕ) → ends ≡ replicate 16 0 → ((x : ℕ) → at entries x ≡ 0) → At P order (length entries) cycle 0 (at dues 0) runtimes (replicate 16 0) dues ends entries
+  unfolding lateness
+  at-start ends entries e blank =
       rw e
       (record {
         holds = record {
@@ -145,11 +144,11 @@ module _ (n cycle : ℕ) (order periods dues runtimes : List ℕ) (S : Shown n c
         quiet = first-due;
         within = omega arith;
         next-within = λ p. omega (arith, event-is-due 0 some, event-in-cycle (at order 0) 0 (below 0 some) p);
-        entries-are = λ _. refl;
+        entries-are = λ _. record { long = refl; written = λ x l. absurd (omega arith); blank = λ x _. blank x };
       })
 
   -- ---- from an event to the next
-  module _ (table₀ : List ℕ) (t next : ℕ) (lacks₀ releases events ends table₁ : List ℕ) (A : At P order table₀ cycle t next lacks₀ releases events ends table₁) (lt : t < cycle) where
+  module _ (room t next : ℕ) (lacks₀ releases events ends table₁ : List ℕ) (A : At P order room cycle t next lacks₀ releases events ends table₁) (lt : t < cycle) where
     -- what the numbers keep to
     pub numbers-fit : (k : ℕ) → k < n → Fits (at periods k) (at dues k) (at releases k) (at events k) next
     numbers-fit k small =
@@ -183,7 +182,7 @@ module _ (n cycle : ℕ) (order periods dues runtimes : List ℕ) (S : Shown n c
       G = rw count-is at G₀
 
       -- The first that is late ends the walk.
-      stopped : OneLate order (λ k. missingOf (at events k) (at lacks₁ k) next) n (r .late) → (r .late .task ≡ 0 → ⊥) → Walked P cycle order table₀ ends₁ table₂ (r .late)
+      stopped : OneLate order (λ k. missingOf (at events k) (at lacks₁ k) next) n (r .late) → (r .late .task ≡ 0 → ⊥) → Walked P cycle order room ends₁ table₂ (r .late)
       stopped L nz =
           let e : next + (cycle - next) ≡ cycle = omega (arith, A .next-within lt) in
           let so = one-late-then P sound order periods dues runtimes W t s lacks₀ releases events ends (A .holds) on-time-here next is-next (A .quiet) lacks₁ ends₁ (rw as-many at (G .lacks-are)) (rw as-many at (G .ends-are)) (r .late) (rw count-is at L) in
@@ -208,63 +207,57 @@ module _ (n cycle : ℕ) (order periods dues runtimes : List ℕ) (S : Shown n c
             ∙ then-holds .event-is k lk
 
         -- the table's entries up to the next event
-        entries-then : ((x : ℕ) → at table₀ x ≡ 0) → cycle ≤ length table₀ → table₂ ≡ overwrite (table P) next table₀
-        entries-then blank room =
-            let e = A .entries-are room in
-            let long = overwritten-length (table P) table₀ t table₁ e in
-            let w = G .writes (omega (arith, A .next-within lt)) (λ x a. ap (λ (y : List ℕ). at y x) e ∙ overwrite-kept (table P) table₀ 0 t x a ∙ blank x) in
-            ext-getD 0 table₂ (overwrite (table P) next table₀)
-            (w .long ∙ long ∙ sym (overwrite-length (table P) table₀ next))
-            (λ x lx.
-            ⊎-elim
-            (λ (new : t ≤ x).
-            ⊎-elim
-            (λ (beyond : next ≤ x).
-            w .elsewhere x (inr beyond) ∙ ap (λ (y : List ℕ). at y x) e ∙ overwrite-kept (table P) table₀ 0 t x new ∙ sym (overwrite-kept (table P) table₀ 0 next x beyond))
-            (λ (here : x < next).
-            let q : t + (x - t) ≡ x = omega arith in
-            sym (ap (at table₂) q)
-            ∙ goes-to-one order (at lacks₀) (P .count) (x - t) _ _ (w .entries (x - t) (omega arith)) (entry-turn P sound order periods dues runtimes W t s lacks₀ releases events ends (A .holds) on-time-here next is-next (A .quiet) (x - t) (omega (arith, is-next)))
-            ∙ ap (table P) q
-            ∙ sym (overwrite-at (table P) table₀ 0 next x here (omega (arith, A .next-within lt))))
-            (le-or-lt next x))
-            (λ (done : x < t).
-            w .elsewhere x (inl done) ∙ ap (λ (y : List ℕ). at y x) e ∙ overwrite-at (table P) table₀ 0 t x done (omega (arith, A .within)) ∙ sym (overwrite-at (table P) table₀ 0 next x (omega (arith, A .ahead)) (omega (arith, A .within))))
-            (le-or-lt t x))
+        entries-then : cycle ≤ room → Tabled (table P) next room table₂
+        entries-then enough =
+            let e = A .entries-are enough in
+            let w = G .writes (omega (arith, e .long, A .next-within lt)) (e .blank) in
+            record {
+              long = w .long ∙ e .long;
+              written = λ x l.
+                  ⊎-elim
+                  (λ (new : t ≤ x).
+                  let q : t + (x - t) ≡ x = omega arith in
+                  sym (ap (at table₂) q)
+                  ∙ goes-to-one order (at lacks₀) (P .count) (x - t) _ _ (w .entries (x - t) (omega arith)) (entry-turn P sound order periods dues runtimes W t s lacks₀ releases events ends (A .holds) on-time-here next is-next (A .quiet) (x - t) (omega (arith, is-next)))
+                  ∙ ap (table P) q)
+                  (λ (old : x < t). w .elsewhere x (inl old) ∙ e .written x old)
+                  (le-or-lt t x);
+              blank = λ x l. w .elsewhere x (inr l) ∙ e .blank x (omega (arith, A .ahead));
+            }
 
-        went-on : ((x : ℕ) → at table₀ x ≡ 0) → At P order table₀ cycle next (r .next) lacks₂ releases₂ events₂ ends₁ table₂
+        went-on : At P order room cycle next (r .next) lacks₂ releases₂ events₂ ends₁ table₂
         unfolding planOf
-        went-on blank = record {
+        went-on = record {
           holds = then-holds;
           on-time = none-late-then P sound order periods dues runtimes W t s lacks₀ releases events ends (A .holds) on-time-here next is-next (A .quiet) lacks₁ ends₁ (rw as-many at (G .lacks-are)) (rw as-many at (G .ends-are)) (T .none-late);
           ahead = T .next-is .greatest (suc next) (omega (arith, A .next-within lt, C, B .keeps .cycle-within)) (λ k lk. omega (arith, event-then k lk, event-later P sound (at order k) (below k lk) next));
           quiet = λ k lk. omega (arith, T .next-is .no-later k lk, event-then k lk, then-holds .event-is k lk);
           within = A .next-within lt;
           next-within = λ q. omega (arith, T .next-is .no-later 0 some, event-then 0 some, event-in-cycle (at order 0) next (below 0 some) q);
-          entries-are = entries-then blank;
+          entries-are = entries-then;
         }
 
-      pub stops : TurnedAll order periods dues runtimes releases events lacks₁ n next releases₂ events₂ lacks₂ r → (r .late .task ≡ 0 → ⊥) → Walked P cycle order table₀ ends₁ table₂ (r .late)
+      pub stops : TurnedAll order periods dues runtimes releases events lacks₁ n next releases₂ events₂ lacks₂ r → (r .late .task ≡ 0 → ⊥) → Walked P cycle order room ends₁ table₂ (r .late)
       stops (inl L) nz = stopped L nz
       stops (inr T) nz = absurd (nz (ap (λ (x : Late). x .task) (T .late-is)))
 
-      pub goes-on : TurnedAll order periods dues runtimes releases events lacks₁ n next releases₂ events₂ lacks₂ r → r .late .task ≡ 0 → ((x : ℕ) → at table₀ x ≡ 0) → At P order table₀ cycle next (r .next) lacks₂ releases₂ events₂ ends₁ table₂
-      goes-on (inl L) z blank = absurd (omega (arith, L .first .is))
-      goes-on (inr T) z blank = went-on T blank
+      pub goes-on : TurnedAll order periods dues runtimes releases events lacks₁ n next releases₂ events₂ lacks₂ r → r .late .task ≡ 0 → At P order room cycle next (r .next) lacks₂ releases₂ events₂ ends₁ table₂
+      goes-on (inl L) z = absurd (omega (arith, L .first .is))
+      goes-on (inr T) z = went-on T
 
   -- ---- at the cycle's end nothing was late
-  pub ends-well : (table₀ : List ℕ) (t next : ℕ) (lacks₀ releases events ends table₁ : List ℕ) → At P order table₀ cycle t next lacks₀ releases events ends table₁ → cycle ≤ t
-      → Walked P cycle order table₀ ends table₁ (record { task = 0; short = 0 })
-  ends-well table₀ t next lacks₀ releases events ends table₁ A q =
+  pub ends-well : (room t next : ℕ) (lacks₀ releases events ends table₁ : List ℕ) → At P order room cycle t next lacks₀ releases events ends table₁ → cycle ≤ t
+      → Walked P cycle order room ends table₁ (record { task = 0; short = 0 })
+  ends-well room t next lacks₀ releases events ends table₁ A q =
       let e : t ≡ cycle = omega (arith, A .within) in
       record {
         late-is = A .on-time ∙ ap (lateness P) e;
         end-is = λ _ k lk. A .holds .end-is k lk ∙ ap (λ (x : ℕ). endBy P x (at order k)) e;
-        entries-are = λ _ room. A .entries-are room ∙ ap (λ (x : ℕ). overwrite (table P) x table₀) e;
+        entries-are = λ _ enough x l. A .entries-are enough .written x (omega arith);
       }
 
   -- ---- the verdict, by what the walk came to
-  module _ (ends table₀ table₁ : List ℕ) (late : Late) (L : Walked P cycle order table₀ ends table₁ late) where
+  module _ (ends : List ℕ) (room : ℕ) (table₁ : List ℕ) (late : Late) (L : Walked P cycle order room ends table₁ late) where
     task-is : late .task ≡ lateness P cycle .task
     task-is = ap (λ (x : Late). x .task) (L .late-is)
 
@@ -277,7 +270,7 @@ module _ (n cycle : ℕ) (order periods dues runtimes : List ℕ) (S : Shown n c
         let fits = B .keeps .fits (late .task - 1) (lacks .0) in
         omega (arith, ap (λ (x : Late). x .short) (L .late-is), m .lacks, missing-is P (m .slice) (late .task - 1) (lacks .1) .1, fits .runtime-to, fits .period-to)
 
-    pub concluded-late : (jobs : ℕ) (z : ℤ) → (late .task ≡ 0 → ⊥) → z ≡ subℕ 0 (late .short) → Concluded l cycle jobs table₀ table₁ (Refused 7 (late .task) z)
+    pub concluded-late : (jobs : ℕ) (z : ℤ) → (late .task ≡ 0 → ⊥) → z ≡ subℕ 0 (late .short) → Concluded l cycle jobs room table₁ (Refused 7 (late .task) z)
     unfolding judged
     concluded-late jobs z nz q = record {
       answer = rw (← L .late-is, q) (sym (choose-no _ _ _ (ne-eqb (late .task) 0 nz)));
@@ -328,7 +321,7 @@ module _ (n cycle : ℕ) (order periods dues runtimes : List ℕ) (S : Shown n c
         pub margin-within : at dues best - at ends best ≤ 4096
         margin-within = omega (arith, W .due-is best (F .below), sound .due-within (at order best) (below best (F .below)), period-small (at order best) (below best (F .below)))
 
-        pub concluded-accepted : (jobs : ℕ) (z : ℤ) → z ≡ pos (at dues best - at ends best) → Concluded l cycle jobs table₀ table₁ (Accepted cycle jobs (at order best + 1) z)
+        pub concluded-accepted : (jobs : ℕ) (z : ℤ) → z ≡ pos (at dues best - at ends best) → Concluded l cycle jobs room table₁ (Accepted cycle jobs (at order best + 1) z)
         unfolding judged
         concluded-accepted jobs z q = record {
           answer =

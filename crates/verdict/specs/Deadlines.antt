@@ -1,13 +1,13 @@
 -- Laws of lateness: none is found exactly if every job is on time, and what is told by one that is found.
 use mathlib.Core.Path.{_≡_, refl, sym, ap, _∙_}
-use mathlib.Core.Logic.{⊎-elim, _↔_}
+use mathlib.Core.Logic.{inl, ⊎-elim, _↔_}
 use Prim.Native.Nat.{ℕ, zero, suc, _+_, _-_, _<_}
 use native.Mathlib.Omega.{arith}
 use native.Mathlib.Nat.{suc-inj, add-suc}
 use borrow.Author.Tests.{eq-eqb, ne-eqb}
 use Rattle.basis.specs.Choose.{choose-yes, choose-no, eq-or-ne}
 use Rattle.plan.specs.Plan.{Plan, Sound, release, deadline, job, age, keyIn, IsFirst, NoneWants, FirstTask, given, table, HadBy, OnTime, OnTimeUpTo}
-use Rattle.plan.specs.Rank.{first-law}
+use Rattle.plan.specs.Rank.{first-law, first-is}
 use Rattle.plan.specs.Run.{release-age, job-at, age-at, had-after}
 use Rattle.verdict.specs.declared.Late.{Late}
 use Rattle.verdict.specs.Lateness.{received, missing, missedAt, lateBy, earlier, lateness}
@@ -37,11 +37,7 @@ module _ (P : Plan) (t : ℕ) where
   unfolding missedAt IsFirst
   missed-none = (
     λ z. ⊎-elim (λ (h : NoneWants _ _ _). h .none) (λ (h : FirstTask _ _ _ _). absurd (omega arith)) (first-law (keyIn P t) (missing P t) (P .count)),
-    λ all.
-        ⊎-elim
-        (λ (h : NoneWants _ _ _). h .idle)
-        (λ (h : FirstTask _ _ _ _). absurd (omega (arith, all (h .task) (h .below))))
-        (first-law (keyIn P t) (missing P t) (P .count)),
+    λ all. sym (first-is (keyIn P t) (missing P t) (P .count) 0 (inl (record { idle = refl; none = all }))),
   )
 
   -- The task that misses one is a task, and lacks something.

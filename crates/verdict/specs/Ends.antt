@@ -1,10 +1,12 @@
 -- The end of a task's first job, as the slice rule comes to it slice by slice.
 use mathlib.Core.Path.{_≡_, sym, ap, _∙_}
-use Prim.Native.Nat.{ℕ, suc, _+_, _≤_, _<_, min}
+use mathlib.Core.Logic.{_⊎_, inl, inr, ⊎-elim}
+use Prim.Native.Nat.{ℕ, zero, suc, _+_, _-_, _≤_, _<_, min}
 use native.Mathlib.Omega.{arith}
-use native.Mathlib.Nat.{zero-add, zero-mul}
-use lib.Dec.{leb}
-use borrow.Author.Tests.{le-leb, lt-leb}
+use native.Mathlib.Nat.{zero-add, zero-mul, add-zero, add-suc}
+use lib.Dec.{leb, ltb}
+use borrow.Author.Tests.{le-leb, lt-leb, lt-ltb, le-ltb}
+use Rattle.basis.specs.Choose.{choose, choose-yes, choose-no, le-or-lt}
 use Rattle.basis.specs.Least.{least, least-law, least-is}
 use Rattle.plan.specs.Plan.{Plan, Sound, release, gets, given, entry, table, OnTime}
 use Rattle.plan.specs.Work.{gets-one, gets-none}
@@ -41,22 +43,44 @@ module _ (P : Plan) (i : ℕ) where
   unfolding endBy had
   end-none = is-first _ 0 (omega arith) (omega (arith, given-in-none P (P .runtime) i 0 (min 0 (P .due i)) (omega arith))) (λ j l. absurd (omega arith))
 
-  pub end-got : (t : ℕ) → t < P .due i → table P t ≡ suc i → endBy P (suc t) i ≡ suc t
+  end-got : (t : ℕ) → t < P .due i → table P t ≡ suc i → endBy P (suc t) i ≡ suc t
   unfolding endBy had
   end-got t l e =
       let m : min (suc t) (P .due i) ≡ suc t = omega arith in
       is-first _ (suc t) l (omega (arith, ap had m)) (λ j lj. omega (arith, ap had m, one-more t, gets-one (table P t) i e, given-grows P (P .runtime) i 0 j t (omega arith)))
 
-  pub end-kept : (t : ℕ) → t < P .due i → (table P t ≡ suc i → ⊥) → endBy P (suc t) i ≡ endBy P t i
+  end-kept : (t : ℕ) → t < P .due i → (table P t ≡ suc i → ⊥) → endBy P (suc t) i ≡ endBy P t i
   unfolding endBy had
   end-kept t l ne =
       let m : min (suc t) (P .due i) ≡ suc t = omega arith in
       let n : min t (P .due i) ≡ t = omega arith in
       ap (hadFirst P i) (ap had m ∙ omega (arith, ap had n, one-more t, gets-none (table P t) i ne))
 
-  pub end-shut : (t : ℕ) → P .due i ≤ t → endBy P (suc t) i ≡ endBy P t i
+  -- After its deadline nothing changes, and before it nothing but by the slices that it gets.
+  pub end-shut : (t m : ℕ) → P .due i ≤ t → endBy P (t + m) i ≡ endBy P t i
   unfolding endBy
-  end-shut t l = let m : min (suc t) (P .due i) ≡ min t (P .due i) = omega arith in ap (λ (s : ℕ). hadFirst P i (given P (P .runtime) i 0 s)) m
+  end-shut t m l = let e : min (t + m) (P .due i) ≡ min t (P .due i) = omega arith in ap (λ (s : ℕ). hadFirst P i (given P (P .runtime) i 0 s)) e
+
+  end-quiet : (t m : ℕ) → t + m ≤ P .due i → ((x : ℕ) → x < m → table P (t + x) ≡ suc i → ⊥) → endBy P (t + m) i ≡ endBy P t i
+  end-quiet t zero l none = ap (λ (s : ℕ). endBy P s i) (add-zero t)
+  end-quiet t (suc m) l none = ap (λ (s : ℕ). endBy P s i) (add-suc t m) ∙ end-kept (t + m) (omega arith) (none m (omega arith)) ∙ end-quiet t m (omega arith) (λ x lx. none x (omega arith))
+
+  -- Of m slices from slice t on it gets those from a to b.
+  pub end-turn : (t m a b : ℕ) → t + m ≤ P .due i → b ≤ m → ((x : ℕ) → a ≤ x → x < b → table P (t + x) ≡ suc i) → ((x : ℕ) → x < m → (x < a) ⊎ (b ≤ x) → table P (t + x) ≡ suc i → ⊥)
+      → endBy P (t + m) i ≡ choose (ltb a b) (t + b) (endBy P t i)
+  end-turn t m a b due within gets others =
+      ⊎-elim
+      (λ (none : b ≤ a). end-quiet t m due (λ x l. others x l (⊎-elim (λ (u : b ≤ x). inr u) (λ (u : x < b). inl (omega arith)) (le-or-lt b x))) ∙ sym (choose-no _ _ _ (le-ltb a b none)))
+      (λ (some : a < b).
+      let rest : t + m ≡ t + b + (m - b) = omega arith in
+      let last : t + b ≡ suc (t + (b - 1)) = omega arith in
+      ap (λ (s : ℕ). endBy P s i) rest
+      ∙ end-quiet (t + b) (m - b) (omega arith) (λ x l e. let q : t + (b + x) ≡ t + b + x = omega arith in others (b + x) (omega arith) (inr (omega arith)) (ap (table P) q ∙ e))
+      ∙ ap (λ (s : ℕ). endBy P s i) last
+      ∙ end-got (t + (b - 1)) (omega arith) (gets (b - 1) (omega arith) (omega arith))
+      ∙ sym last
+      ∙ sym (choose-yes _ _ _ (lt-ltb a b some)))
+      (le-or-lt b a)
 
 -- Of a first job that is on time it is its end, from its deadline on.
 pub end-is-first : (P : Plan) → Sound P → (i t : ℕ) → i < P .count → OnTime P (P .runtime) i 0 → P .due i ≤ t → endBy P t i ≡ firstEnd P i

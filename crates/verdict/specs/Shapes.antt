@@ -42,6 +42,12 @@ pub record Written (order lacks table : List ℕ) (n t to : ℕ) (table′ : Lis
   pub entries : (s : ℕ) → t + s < to → GoesTo order (at lacks) n s (at table′ (t + s))
   pub elsewhere : (x : ℕ) → (x < t) ⊎ (to ≤ x) → at table′ x ≡ at table x
 
+-- The entries of the slices before slice t, with none written from there on.
+pub record Tabled (entry : ℕ → ℕ) (t room : ℕ) (table : List ℕ) : Type 0 where
+  pub long : length table ≡ room
+  pub written : (x : ℕ) → x < t → at table x ≡ entry x
+  pub blank : (x : ℕ) → t ≤ x → at table x ≡ 0
+
 -- ---- a turn
 -- It begins at slice `from` and ends at slice r, where the task has what it lacks or the next event is. Its entries are written
 -- where there is room up to the next event.

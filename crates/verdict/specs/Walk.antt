@@ -2,27 +2,27 @@
 use mathlib.Core.Path.{_≡_, refl, sym, ap, _∙_}
 use mathlib.Core.Bool.{Bool, _&&_}
 use mathlib.Core.List.{List}
-use mathlib.Core.Logic.{inl, inr, ⊎-elim}
-use Prim.Native.Nat.{ℕ, zero, suc, _+_, _-_, _*_, _≤_, _<_}
+use mathlib.Core.Logic.{_⊎_, inl, inr, ⊎-elim}
+use Prim.Native.Nat.{ℕ, suc, _+_, _-_, _*_, _≤_, _<_}
 use native.Mathlib.Omega.{arith}
-use native.Mathlib.Nat.{add-zero, add-suc, suc-inj, mod-eq-of-lt, div-eq-of-lt, zero-mul}
+use native.Mathlib.Nat.{add-suc, suc-inj, mod-eq-of-lt, div-eq-of-lt, zero-mul}
 use lib.Dec.{ltb}
 use lib.ListN.{length}
 use borrow.Author.Tests.{lt-ltb, le-ltb, eq-eqb, ne-eqb}
 use Rattle.basis.specs.Bytes.{at, overwrite, overwrite-length, overwrite-at}
 use Rattle.basis.specs.Choose.{choose, choose-yes, choose-no, choose-either, le-or-lt, eq-or-ne}
-use Rattle.basis.specs.Sum.{sum, sum-grows}
+use Rattle.basis.specs.Sum.{sum}
 use Rattle.plan.specs.Plan.{Plan, Sound, release, deadline, job, age, keyIn, gets, table, OnTimeUpTo}
 use Rattle.plan.specs.Run.{release-age, lacks, lacks-open, lacks-shut}
 use Rattle.plan.specs.Order.{Ranked, ranked-first, one-place, FirstIn}
-use Rattle.plan.specs.Events.{nextEvent, event-open, event-by-release, deadline-not-before, event-inside, ComesTo, before-event, at-deadline, at-release, left, GoesTo, entry-goes, after-left}
+use Rattle.plan.specs.Events.{nextEvent, event-open, event-by-release, deadline-not-before, event-inside, ComesTo, before-event, at-deadline, at-release, left, GoesTo, goes-to-one, entry-goes, after-left}
 use Rattle.tasks.specs.declared.TaskList.{TaskList}
 use Rattle.tasks.specs.List.{planOf}
 use Rattle.tasks.specs.Bounds.{cycleOf}
 use Rattle.verdict.specs.declared.Late.{Late}
 use Rattle.verdict.specs.Lateness.{received, missing, missedAt, lateBy, lateness}
 use Rattle.verdict.specs.Deadlines.{nothing-late, earlier-second}
-use Rattle.verdict.specs.Ends.{endBy, end-got, end-kept, end-shut}
+use Rattle.verdict.specs.Ends.{endBy, end-shut, end-turn}
 use Rattle.verdict.specs.Shapes.{Bounded, until, endAfter, missingOf, turned, eventThen, releaseThen, lackThen, noneLate, OneLate}
 
 -- ---- the arrays
@@ -67,21 +67,6 @@ module _ {A : Type 0} (next event t : ℕ) (stays waits begins : A) where
   pub turned-begins : event ≡ t → next ≤ t → turned next event t stays waits begins ≡ begins
   unfolding turned
   turned-begins e l = choose-yes _ _ _ (eq-eqb event t e) ∙ choose-no _ _ _ (le-ltb t next l)
-
--- ---- the end of a first job, slice by slice
-module _ (lack : ℕ → ℕ) (k s : ℕ) where
-  -- what the slice after s brings of a turn
-  until-turn : sum lack k ≤ s → s < sum lack (suc k) → (until lack k (suc s) ≡ suc s) × (sum lack k < until lack k (suc s))
-  unfolding until
-  until-turn a b = (omega arith, omega arith)
-
-  until-over : sum lack (suc k) ≤ s → until lack k (suc s) ≡ until lack k s
-  unfolding until
-  until-over a = omega arith
-
-  until-to-come : suc s ≤ sum lack k → (until lack k (suc s) ≤ sum lack k) × (until lack k s ≤ sum lack k)
-  unfolding until
-  until-to-come a = (omega arith, omega arith)
 
 module _ (P : Plan) (S : Sound P) (order periods dues runtimes : List ℕ) (W : Shows P order periods dues runtimes)
     (t s : ℕ) (lacks₀ releases events ends : List ℕ) (H : Holds P t order lacks₀ releases events ends) (Z : lateness P t .task ≡ 0)
@@ -194,65 +179,37 @@ module _ (P : Plan) (S : Sound P) (order periods dues runtimes : List ℕ) (W : 
       abbrev lack : ℕ → ℕ
       lack = at lacks₀
 
-      -- what the end is after x of the slices
-      unfoldable endWith : ℕ → ℕ
-      endWith x = choose (ltb (sum lack k) (until lack k x)) (t + until lack k x) (endBy P t task)
+      -- it gets the slices of its turn, and no others
+      its-turn : (x : ℕ) → x < suc s → sum lack k ≤ x → x < sum lack (suc k) → table P (t + x) ≡ suc task
+      unfolding GoesTo
+      its-turn x l a b = goes-to-one order lack n x _ _ (entry-turn x l) (inr (record { place = k; below = lk; is = refl; begun = a; not-over = b }))
 
-      end-same : (x : ℕ) → until lack k (suc x) ≡ until lack k x → endWith (suc x) ≡ endWith x
-      unfolding endWith
-      end-same x e = ap (λ (y : ℕ). choose (ltb (sum lack k) y) (t + y) (endBy P t task)) e
-
-      end-to-come : (x : ℕ) → until lack k x ≤ sum lack k → endWith x ≡ endBy P t task
-      unfolding endWith
-      end-to-come x l = choose-no _ _ _ (le-ltb (sum lack k) (until lack k x) l)
-
-      end-slice : (x : ℕ) → t + x < P .due task → endBy P (t + x) task ≡ endWith x → GoesTo order lack n x (table P (t + x)) → endBy P (suc (t + x)) task ≡ endWith (suc x)
-      unfolding GoesTo endWith
-      end-slice x l so (inl h) =
-          end-kept P task (t + x) l (λ q. omega (arith, h .idle))
-          ∙ so ∙ sym (end-same x (until-over lack k x (omega (arith, h .all-had, sum-grows lack (suc k) n lk))))
-      end-slice x l so (inr h) =
-          ⊎-elim
-          (λ (here : h .place ≡ k).
+      not-its-turn : (x : ℕ) → (x < sum lack k) ⊎ (sum lack (suc k) ≤ x) → GoesTo order lack n x (table P (t + x)) → table P (t + x) ≡ suc task → ⊥
+      unfolding GoesTo
+      not-its-turn x o (inl h) e = omega (arith, h .idle)
+      not-its-turn x o (inr h) e =
+          let here = one-place (keyIn P t) n order (W .ranked t) (h .place) k (h .below) lk (suc-inj (sym (h .is) ∙ e)) in
           let a = ap (sum lack) here in
           let b = ap (λ (y : ℕ). sum lack (suc y)) here in
-          let turn = until-turn lack k x (omega (arith, h .begun)) (omega (arith, h .not-over)) in
-          end-got P task (t + x) l (h .is ∙ ap (λ (y : ℕ). suc (at order y)) here)
-          ∙ omega (arith, turn .0, choose-yes (ltb (sum lack k) (until lack k (suc x))) (t + until lack k (suc x)) (endBy P t task) (lt-ltb _ _ (turn .1))))
-          (λ (other : h .place ≡ k → ⊥).
-          end-kept P task (t + x) l (λ q. other (one-place (keyIn P t) n order (W .ranked t) (h .place) k (h .below) lk (suc-inj (sym (h .is) ∙ q))))
-          ∙ so
-          ∙ ⊎-elim
-          (λ (before : k ≤ h .place). sym (end-same x (until-over lack k x (omega (arith, h .begun, sum-grows lack (suc k) (h .place) (omega arith))))))
-          (λ (behind : h .place < k).
-          let to-come = until-to-come lack k x (omega (arith, h .not-over, sum-grows lack (suc (h .place)) k behind)) in
-          end-to-come x (to-come .1) ∙ sym (end-to-come (suc x) (to-come .0)))
-          (le-or-lt k (h .place)))
-          (eq-or-ne (h .place) k)
+          ⊎-elim (λ (u : x < sum lack k). omega (arith, h .begun)) (λ (u : sum lack (suc k) ≤ x). omega (arith, h .not-over)) o
 
-      -- in its first job, and after it
-      first-end : t < P .due task → (x : ℕ) → x ≤ suc s → endBy P (t + x) task ≡ endWith x
+      first-end : t < P .due task → endBy P (t + suc s) task ≡ choose (ltb (sum lack k) (until lack k (suc s))) (t + until lack k (suc s)) (endBy P t task)
       unfolding until
-      first-end l zero lx = ap (λ (y : ℕ). endBy P y task) (add-zero t) ∙ sym (end-to-come 0 (omega arith))
-      first-end l (suc x) lx =
-          ap (λ (y : ℕ). endBy P y task) (add-suc t x)
-          ∙ end-slice x (omega (arith, first-event task (W .ranked t .below k lk) l, quiet-task task (W .ranked t .below k lk))) (first-end l x (omega arith)) (entry-turn x lx)
-
-      later-end : P .due task ≤ t → (x : ℕ) → endBy P (t + x) task ≡ endBy P t task
-      later-end l zero = ap (λ (y : ℕ). endBy P y task) (add-zero t)
-      later-end l (suc x) = ap (λ (y : ℕ). endBy P y task) (add-suc t x) ∙ end-shut P task (t + x) (omega arith) ∙ later-end l x
+      first-end l =
+          end-turn P task t (suc s) (sum lack k) (until lack k (suc s)) (omega (arith, first-event task (W .ranked t .below k lk) l, quiet-task task (W .ranked t .below k lk))) (omega arith)
+          (λ x a b. its-turn x (omega arith) a (omega arith))
+          (λ x lx o. not-its-turn x (⊎-elim (λ (u : x < sum lack k). inl u) (λ (u : until lack k (suc s) ≤ x). inr (omega arith)) o) (entry-turn x lx))
 
       end-after : at ends₁ k ≡ endBy P next task
-      unfolding endAfter endWith
+      unfolding endAfter
       end-after =
           ap (λ (l : List ℕ). at l k) (ends-are)
           ∙ overwrite-at _ ends 0 n k lk (omega (arith, H .ends-room))
           ∙ ⊎-elim
           (λ (o : P .due task ≤ t).
           choose-no _ _ _ (ap (λ (b : Bool). b && ltb (sum lack k) (until lack k (suc s))) (le-ltb t (at dues k) (omega (arith, W .due-is k lk))))
-          ∙ H .end-is k lk ∙ sym (later-end o (suc s)))
-          (λ (b : t < P .due task).
-          rw (lt-ltb t (at dues k) (omega (arith, W .due-is k lk)), H .end-is k lk) (sym (first-end b (suc s) (omega arith))))
+          ∙ H .end-is k lk ∙ sym (end-shut P task t (suc s) o))
+          (λ (b : t < P .due task). rw (lt-ltb t (at dues k) (omega (arith, W .due-is k lk)), H .end-is k lk) (sym (first-end b)))
           (le-or-lt (P .due task) t)
           ∙ ap (λ (x : ℕ). endBy P x task) (add-suc t s ∙ sym is-next)
 
@@ -317,7 +274,7 @@ module _ (P : Plan) (S : Sound P) (order periods dues runtimes : List ℕ) (W : 
 
 -- ---- the whole cycle
 -- The first missed deadline; if there is none, the ends of the first jobs, and the entries where there is room for all.
-pub record Walked (P : Plan) (cycle : ℕ) (order table₀ ends table₁ : List ℕ) (late : Late) : Type 0 where
+pub record Walked (P : Plan) (cycle : ℕ) (order : List ℕ) (room : ℕ) (ends table₁ : List ℕ) (late : Late) : Type 0 where
   pub late-is : late ≡ lateness P cycle
   pub end-is : late .task ≡ 0 → (k : ℕ) → k < P .count → at ends k ≡ endBy P cycle (at order k)
-  pub entries-are : late .task ≡ 0 → cycle ≤ length table₀ → table₁ ≡ overwrite (table P) cycle table₀
+  pub entries-are : late .task ≡ 0 → cycle ≤ room → (x : ℕ) → x < cycle → at table₁ x ≡ table P x

@@ -49,7 +49,7 @@ fn conclude(
     entries: &mut [u8],
 ) -> Verdict
     requires { ⌜ Shown count cycle (now order) (now periods) (now dues) (now runtimes) × ((x : ℕ) → at (now entries) x ≡ 0) ⌝ }
-    ensures { λ r. ⌜ ((S : Shown count cycle (now (order .entry)) (now (periods .entry)) (now (dues .entry)) (now (runtimes .entry))) → Concluded (S .list) cycle jobs (now (entries .entry)) (now (entries .exit)) r) ⌝ }
+    ensures { λ r. ⌜ ((S : Shown count cycle (now (order .entry)) (now (periods .entry)) (now (dues .entry)) (now (runtimes .entry))) → Concluded (S .list) cycle jobs (length (now (entries .entry))) (now (entries .exit)) r) ⌝ }
 {
     let mut ends = [0u32; 16];
     let late = walk::simulate(

@@ -187,7 +187,7 @@ pub(crate) fn simulate(
     entries: &mut [u8],
 ) -> Late
     requires { ⌜ Shown count cycle (now order) (now periods) (now dues) (now runtimes) × (now ends ≡ replicate 16 0) × ((x : ℕ) → at (now entries) x ≡ 0) ⌝ }
-    ensures { λ r. ⌜ ((S : Shown count cycle (now (order .entry)) (now (periods .entry)) (now (dues .entry)) (now (runtimes .entry))) → Walked (planOf (S .list)) cycle (now (order .entry)) (now (entries .entry)) (now (ends .exit)) (now (entries .exit)) r) ⌝ }
+    ensures { λ r. ⌜ ((S : Shown count cycle (now (order .entry)) (now (periods .entry)) (now (dues .entry)) (now (runtimes .entry))) → Walked (planOf (S .list)) cycle (now (order .entry)) (length (now (entries .entry))) (now (ends .exit)) (now (entries .exit)) r) ⌝ }
 {
     let mut lacks = *runtimes;
     let mut events = *dues;

@@ -19,9 +19,6 @@ loop-holds c = (omega arith, refl)
 loop-again : tie.Need-loop-again Inv-loop μ-loop
 loop-again c = (omega arith, overwrite-next _ _ _ _ _ (c .before .before .loop .inv .1) refl)
 
-same-length : tie.Need-same-length Inv-loop μ-loop
-same-length c = overwritten-length _ _ _ _ (c .before .loop .inv .1)
-
 returns : tie.Need-returns Inv-loop μ-loop
 returns c = let end : c .before .loop .t ≡ c .before .before .args .cycle = omega arith in rw end at (c .before .loop .inv .1)
 
@@ -37,5 +34,5 @@ copy-spec =
     (λ c. omega arith)
     (λ c. omega arith)
     loop-again
-    same-length
+    (λ c. overwritten-length _ _ _ _ (c .before .loop .inv .1))
     returns)

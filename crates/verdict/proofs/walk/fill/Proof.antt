@@ -16,14 +16,8 @@ abbrev μ-loop : tie.MeasureT-loop
 returns : tie.Need-returns Inv-loop μ-loop
 returns c = λ room. absurd (omega arith)
 
-loop-holds : tie.Need-loop-holds Inv-loop μ-loop
-loop-holds c = (omega arith, omega arith, filled-none _ _ _)
-
 loop-again : tie.Need-loop-again Inv-loop μ-loop
 loop-again c = (omega arith, omega arith, rw (c .before .before .put .ensures) (filled-more _ _ _ _ _ (c .before .before .before .before .before .loop .inv .2) (c .before .before .before .before .before .loop .inv .0) (omega arith)))
-
-same-length : tie.Need-same-length Inv-loop μ-loop
-same-length c = c .before .loop .inv .2 .long
 
 returns-2 : tie.Need-returns-2 Inv-loop μ-loop
 returns-2 c = λ _. let end : c .before .loop .s ≡ c .before .before .before .before .args .to = omega arith in rw end at (c .before .loop .inv .2)
@@ -36,10 +30,10 @@ fill-spec =
     μ-loop
     returns
     (λ c. omega arith)
-    loop-holds
+    (λ c. (omega arith, omega arith, filled-none _ _ _))
     (λ c κs. omega (arith, c .before .before .loop .inv .2 .long))
     (λ c. omega arith)
     (λ c. omega arith)
     loop-again
-    same-length
+    (λ c. c .before .loop .inv .2 .long)
     returns-2)

@@ -8,9 +8,6 @@ use Rattle.verdict.proofs.walk.hand_one.Tie as tie
 returns : tie.Need-returns
 returns c = no-turn (c .before .before .before .args .order .now) (c .before .before .before .args .dues .now) (c .before .before .before .args .lacks .now) (c .before .before .before .args .ends .now) (c .before .before .before .args .entries .now) _ _ _ _ (c .if1 .taken)
 
-fill-requires : tie.Need-fill-requires
-fill-requires c κs = (omega arith, omega (arith, c .before .before .before .before .before .before .pre .2))
-
 returns-2 : tie.Need-returns-2
 returns-2 c = turn-of-later-job (c .before .before .before .before .before .before .before .before .before .before .before .args .order .now) (c .before .before .before .before .before .before .before .before .before .before .before .args .dues .now) (c .before .before .before .before .before .before .before .before .before .before .before .args .lacks .now) (c .before .before .before .before .before .before .before .before .before .before .before .args .ends .now) (c .before .before .before .before .before .before .before .before .before .before .before .args .entries .now) _ _ _ _ _ (c .before .before .before .before .before .before .before .lesser .ensures) (c .before .before .before .before .before .before .before .before .before .before .before .pre .1) _ (c .before .before .before .before .fill .ensures) (c .if2 .taken)
 
@@ -33,7 +30,7 @@ hand-one-spec =
     (λ c. search needs)
     (λ c. search needs)
     (λ c. search needs)
-    fill-requires
+    (λ c κs. (omega arith, omega (arith, c .before .before .before .before .before .before .pre .2)))
     (λ c. search needs)
     (λ c. search needs)
     (λ c. search needs)

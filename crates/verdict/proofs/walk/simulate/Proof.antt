@@ -10,13 +10,10 @@ use Rattle.verdict.proofs.walk.simulate.Statement.{statement}
 use Rattle.verdict.proofs.walk.simulate.Tie as tie
 
 abbrev Inv-loop : tie.InvT-loop
-Inv-loop order periods dues runtimes count cycle ends₀ entries₀ lacks₀ events₀ releases₀ t₀ next₀ ends entries lacks events releases t next = (length entries ≡ length entries₀) × ((S : Shown count cycle order periods dues runtimes) → At (planOf (S .list)) order entries₀ cycle t next lacks releases events ends entries)
+Inv-loop order periods dues runtimes count cycle ends₀ entries₀ lacks₀ events₀ releases₀ t₀ next₀ ends entries lacks events releases t next = (length entries ≡ length entries₀) × ((S : Shown count cycle order periods dues runtimes) → At (planOf (S .list)) order (length entries₀) cycle t next lacks releases events ends entries)
 
 abbrev μ-loop : tie.MeasureT-loop
 μ-loop order periods dues runtimes count cycle ends₀ entries₀ lacks₀ events₀ releases₀ t₀ next₀ ends entries lacks events releases t next = cycle - t
-
-loop-holds : tie.Need-loop-holds Inv-loop μ-loop
-loop-holds c = (omega arith, λ S. at-start _ _ _ _ _ _ S _ _ (c .before .before .before .before .pre .1))
 
 hand-out-requires : tie.Need-hand-out-requires Inv-loop μ-loop
 hand-out-requires c κs = (few _ _ _ _ _ _ (c .before .before .before .before .before .before .before .before .before .pre .0), c .before .before .before .before .loop .inv .1 (c .before .before .before .before .before .before .before .before .before .pre .0) .ahead, order-small _ _ _ _ _ _ (c .before .before .before .before .before .before .before .before .before .pre .0))
@@ -28,7 +25,7 @@ returns : tie.Need-returns Inv-loop μ-loop
 returns c = λ S. stops _ _ _ _ _ _ S _ _ _ _ _ _ _ _ (c .before .before .before .before .before .before .before .before .before .before .before .before .before .before .loop .inv .1 S) (c .before .before .before .before .before .before .before .before .before .before .before .before .before .loop-test .taken) _ _ _ (c .before .before .before .before .before .before .before .before .before .hand-out .ensures) _ _ _ _ (c .before .before .before .turn .ensures) (c .if1 .taken)
 
 loop-again : tie.Need-loop-again Inv-loop μ-loop
-loop-again c = (omega (arith, c .before .before .before .before .before .before .before .before .before .before .before .before .before .before .loop .inv .0), λ S. goes-on _ _ _ _ _ _ S _ _ _ _ _ _ _ _ (c .before .before .before .before .before .before .before .before .before .before .before .before .before .before .loop .inv .1 S) (c .before .before .before .before .before .before .before .before .before .before .before .before .before .loop-test .taken) _ _ _ (c .before .before .before .before .before .before .before .before .before .hand-out .ensures) _ _ _ _ (c .before .before .before .turn .ensures) (c .if1 .left) (c .before .before .before .before .before .before .before .before .before .before .before .before .before .before .before .before .before .before .before .pre .2))
+loop-again c = (omega (arith, c .before .before .before .before .before .before .before .before .before .before .before .before .before .before .loop .inv .0), λ S. goes-on _ _ _ _ _ _ S _ _ _ _ _ _ _ _ (c .before .before .before .before .before .before .before .before .before .before .before .before .before .before .loop .inv .1 S) (c .before .before .before .before .before .before .before .before .before .before .before .before .before .loop-test .taken) _ _ _ (c .before .before .before .before .before .before .before .before .before .hand-out .ensures) _ _ _ _ (c .before .before .before .turn .ensures) (c .if1 .left))
 
 returns-2 : tie.Need-returns-2 Inv-loop μ-loop
 returns-2 c = λ S. ends-well _ _ _ _ _ _ S _ _ _ _ _ _ _ _ (c .before .loop .inv .1 S) (c .loop-test .left)
@@ -40,7 +37,7 @@ simulate-spec =
     Inv-loop
     μ-loop
     (λ c. omega arith)
-    loop-holds
+    (λ c. (omega arith, λ S. at-start _ _ _ _ _ _ S _ _ (c .before .before .before .before .pre .1) (c .before .before .before .before .pre .2)))
     hand-out-requires
     turn-requires
     (λ c. omega (arith, c .before .before .before .before .before .before .before .before .before .before .before .before .before .before .loop .inv .0))

@@ -13,9 +13,6 @@ Inv-loop dues ends count best₀ k₀ best k = (1 ≤ k) × (k ≤ count) × Tig
 abbrev μ-loop : tie.MeasureT-loop
 μ-loop dues ends count best₀ k₀ best k = count - k
 
-loop-holds : tie.Need-loop-holds Inv-loop μ-loop
-loop-holds c = (omega arith, c .pre .0, tightest-first (marginAt (c .args .dues .now) (c .args .ends .now)))
-
 tighter-requires : tie.Need-tighter-requires Inv-loop μ-loop
 tighter-requires c κs = (omega (arith, c .before .before .pre .1), omega (arith, c .before .before .pre .1, c .before .loop .inv .2 .below), c .before .before .pre .2 (c .before .loop .k) (omega arith), c .before .before .pre .2 (c .before .loop .best) (omega (arith, c .before .loop .inv .2 .below)))
 
@@ -31,7 +28,7 @@ tightest-spec =
     (tie.spec
     Inv-loop
     μ-loop
-    loop-holds
+    (λ c. (omega arith, c .pre .0, tightest-first (marginAt (c .args .dues .now) (c .args .ends .now))))
     tighter-requires
     (λ c. omega arith)
     (λ c. omega arith)
