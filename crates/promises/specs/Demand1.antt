@@ -32,7 +32,7 @@ use Rattle.units.specs.Laws.{Fewest}
 use Rattle.readings.specs.declared.Entry.{Entry}
 use Rattle.readings.specs.declared.Entry.the-variants.{Idle, Task, NoEntry}
 use Rattle.readings.specs.declared.Logged.the-variants.{NoResult, Done}
-use Rattle.readings.specs.Reading.{entryOf, loggedOf}
+use Rattle.readings.specs.Reading.{entryOf, refusalOf, loggedOf, entryByte, refusalNumber, loggedByte}
 use Rattle.bench.specs.Drive.{taskIn}
 use Rattle.promises.specs.Program.{Program}
 use Rattle.promises.specs.Refusals.{boundsRules, listRules, buildRules, startRules, whoRules, stepRules, no-length, not-whole}
@@ -145,7 +145,10 @@ pub record Demand1 : Type 0 where
   pub task-whole : (n runtime memory slice : ℕ) → 0 < slice → taskIn (n * slice) runtime memory slice .period ≡ n
   pub task-runtime : (period micros memory slice : ℕ) → 0 < slice → Fewest micros slice (taskIn period micros memory slice .runtime)
   pub task-refused : (micros runtime memory slice : ℕ) → (slicesAnswer (periodSlices micros slice) .number ≡ 0 → ⊥) → taskIn micros runtime memory slice .period ≡ 0
-  -- A result byte of 0 means no result, and only a 1 reads as done.
+  -- A reading stands for the number that was read, whatever it is; a result byte of 0 means no result, and only a 1 reads as done.
+  pub entry-said : (byte count : ℕ) → entryByte (entryOf byte count) ≡ byte
+  pub refusal-said : (number : ℕ) → refusalNumber (refusalOf number) ≡ number
+  pub logged-said : (byte : ℕ) → loggedByte (loggedOf byte) ≡ byte
   pub zero-is-no-result : loggedOf 0 ≡ NoResult
   pub done-is-one : (byte : ℕ) → loggedOf byte ≡ Done → byte ≡ 1
   -- The program: 16, then 15, then the list's rules; what it prints is the record of the refusal, or the table.

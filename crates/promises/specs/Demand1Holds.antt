@@ -44,7 +44,7 @@ use Rattle.units.specs.Conversion.{periodSlices, slicesOf, slicesAnswer}
 use Rattle.units.specs.Laws.{runtime-fewest, period-accepted}
 use Rattle.readings.specs.declared.Entry.the-variants.{NoEntry}
 use Rattle.readings.specs.Reading.{entryOf}
-use Rattle.readings.specs.Laws.{reads-no-entry, idle-read, task-read, no-entry-read, reads-results, done-is-one}
+use Rattle.readings.specs.Laws.{reads-no-entry, idle-read, task-read, no-entry-read, entry-byte, refusal-number, logged-byte, reads-results, done-is-one}
 use Rattle.bench.specs.Drive.{taskIn}
 use Rattle.promises.specs.Begun.{all-alike, start-accepted}
 use Rattle.promises.specs.RefusalsHold.{bounds-go, list-goes, build-goes, start-goes, who-goes, step-goes, runtime-goes, period-goes}
@@ -286,6 +286,9 @@ demand-1 = record {
   task-whole = λ n runtime memory slice pos. period-exact n slice pos;
   task-runtime = λ period micros memory slice pos. runtime-fewest micros slice pos;
   task-refused = λ micros runtime memory slice nz. none-of-refused (periodSlices micros slice) nz;
+  entry-said = entry-byte;
+  refusal-said = refusal-number;
+  logged-said = logged-byte;
   zero-is-no-result = reads-results .0;
   done-is-one = done-is-one;
   program = program;

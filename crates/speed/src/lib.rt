@@ -121,12 +121,12 @@ pub extern "C" fn speed_start(
 ) -> Answer {
     let started = begin(numbers, supply, mode, clock, log);
     let answer = started.answer;
-    let state = started.state;
+    let cycle = started.state.cycle;
     match answer {
         Begun::Accepted => Answer {
             number: 0,
             margin: 0,
-            cycle: state.cycle,
+            cycle,
             jobs: 0,
             task: 0,
         },
@@ -137,7 +137,7 @@ pub extern "C" fn speed_start(
         } => Answer {
             number,
             margin,
-            cycle: state.cycle,
+            cycle,
             jobs: 0,
             task,
         },

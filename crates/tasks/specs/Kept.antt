@@ -39,7 +39,7 @@ pub record KeepsBounds (l : TaskList) (supply : ℕ) : Type 0 where
   pub memory-within : memorySum (l .tasks) (l .count) ≤ supply
   pub cycle-within : cycleOf l ≤ 4096
 
-of-count-none : (n : ℕ) → (ofCount n .number ≡ 0) ↔ ((1 ≤ n) × (n ≤ 16))
+pub of-count-none : (n : ℕ) → (ofCount n .number ≡ 0) ↔ ((1 ≤ n) × (n ≤ 16))
 unfolding ofCount
 of-count-none n = (
   λ z.

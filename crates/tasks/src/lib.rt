@@ -1,12 +1,13 @@
 // The task list by value, its cycle by Euclid's rule, and what bounds it: refusals 1 to 6.
 ghost use mathlib.Core.Path.{_≡_};
 ghost use Prim.Native.Nat.{ℕ, _+_, _≤_, _<_};
-ghost use Rattle.basis.specs.Choose.{within};
-ghost use Rattle.basis.specs.Answer.{firstFound};
+ghost use lib.Dec.{ltb};
+ghost use Rattle.basis.specs.Choose.{choose, within};
+ghost use Rattle.basis.specs.Answer.{refusal, none, _orElse_, firstFound};
 ghost use Rattle.tasks.specs.List.{dueOf, keyOf, runtimeOf};
 ghost use Rattle.tasks.specs.Euclid.{gcdOf, lcmOf};
-ghost use Rattle.tasks.specs.Bounds.{ofNumbers, ofTask, ofMemory, jobSum, boundsOf};
-ghost use Rattle.tasks.specs.Shapes.{asAnswer, Finds, Multiplies};
+ghost use Rattle.tasks.specs.Bounds.{ofNumbers, ofTask, ofMemory, boundsOf};
+ghost use Rattle.tasks.specs.Shapes.{asAnswer, shortAt, Finds, Multiplies};
 ghost use Rattle.tasks.specs.Kept.{AllFit};
 
 // Period and run-time in slices, sample memory in words.
@@ -90,12 +91,35 @@ fn of_task(period: u32, runtime: u32, task: usize) -> Finding
     Finding { number: 0, task: 0 }
 }
 
-// The first task that is refused by 3 or 4.
-fn of_tasks(list: TaskList) -> Finding
+fn wide(x: u32) -> u64
+    ensures { λ r. ⌜ (r ≡ x) × (r < 4294967296) ⌝ }
+{
+    x as u64
+}
+
+// The first task at which the memory exceeds the supply, 0 for none, with one more task, up to which it sums up to this.
+fn of_sum(short: usize, supply: u32, sum: u64, task: usize) -> usize
+    requires { ⌜ 0 < task ⌝ }
+    ensures { λ r. ⌜ shortAt r ≡ (shortAt short orElse choose (ltb supply sum) (refusal 5 task) none) ⌝ }
+{
+    if short != 0 {
+        return short;
+    }
+    if wide(supply) < sum {
+        return task;
+    }
+    0
+}
+
+// The first task that is refused by 3 or 4, or else the first at which the memory exceeds the supply. One pass for
+// both, as each function that goes through the tasks copies them.
+fn of_tasks(list: TaskList, supply: u32) -> Finding
     requires { ⌜ list .count ≤ 16 ⌝ }
-    ensures { λ r. ⌜ Finds (firstFound (ofTask (list .tasks)) (list .count)) r ⌝ }
+    ensures { λ r. ⌜ Finds (firstFound (ofTask (list .tasks)) (list .count) orElse firstFound (ofMemory (list .tasks) supply) (list .count)) r ⌝ }
 {
     let tasks = list.tasks;
+    let mut short = 0;
+    let mut sum: u64 = 0;
     let mut i = 0;
     while i < list.count {
         let t = tasks[i];
@@ -103,43 +127,23 @@ fn of_tasks(list: TaskList) -> Finding
         if found.number != 0 {
             return found;
         }
-        i += 1;
-    }
-    Finding { number: 0, task: 0 }
-}
-
-fn wide(x: u32) -> u64
-    ensures { λ r. ⌜ (r ≡ x) × (r < 4294967296) ⌝ }
-{
-    x as u64
-}
-
-// The first task at which the memory exceeds the supply.
-fn of_memory(list: TaskList, supply: u32) -> Finding
-    requires { ⌜ list .count ≤ 16 ⌝ }
-    ensures { λ r. ⌜ Finds (firstFound (ofMemory (list .tasks) supply) (list .count)) r ⌝ }
-{
-    let tasks = list.tasks;
-    let most = wide(supply);
-    let mut sum: u64 = 0;
-    let mut i = 0;
-    while i < list.count {
-        let t = tasks[i];
         sum += wide(t.memory);
-        if most < sum {
-            return Finding {
-                number: 5,
-                task: i + 1,
-            };
-        }
+        short = of_sum(short, supply, sum, i + 1);
         i += 1;
     }
-    Finding { number: 0, task: 0 }
+    if short == 0 {
+        return Finding { number: 0, task: 0 };
+    }
+    Finding {
+        number: 5,
+        task: short,
+    }
 }
 
-// The multiple of the periods, and the first task that takes it above 4,096.
+// The multiple of the periods with its job count, and the first task that takes it above 4,096.
 struct Running {
     multiple: u32,
+    jobs: u32,
     found: Finding,
 }
 
@@ -156,6 +160,7 @@ fn of_cycle(list: TaskList) -> Running
         if 4096 < next {
             return Running {
                 multiple,
+                jobs: 0,
                 found: Finding {
                     number: 6,
                     task: i + 1,
@@ -165,26 +170,19 @@ fn of_cycle(list: TaskList) -> Running
         multiple = next as u32;
         i += 1;
     }
+    // the jobs are counted here, where the tasks are copied already
+    let mut jobs: u32 = 0;
+    let mut j = 0;
+    while j < list.count {
+        let t = tasks[j];
+        jobs += multiple / t.period;
+        j += 1;
+    }
     Running {
         multiple,
+        jobs,
         found: Finding { number: 0, task: 0 },
     }
-}
-
-fn count_jobs(list: TaskList, cycle: u32) -> u32
-    requires { ⌜ AllFit list × (cycle ≤ 4096) ⌝ }
-    ensures { λ r. ⌜ r ≡ jobSum (list .tasks) cycle (list .count) ⌝ }
-{
-    let tasks = list.tasks;
-    let count = list.count;
-    let mut jobs: u32 = 0;
-    let mut i = 0;
-    while i < count {
-        let t = tasks[i];
-        jobs += cycle / t.period;
-        i += 1;
-    }
-    jobs
 }
 
 fn broken(found: Finding) -> Bounds
@@ -206,13 +204,9 @@ pub fn check_bounds(list: TaskList, supply: u32) -> Bounds
     if 16 < list.count {
         return Bounds::Broken { number: 2, task: 0 };
     }
-    let fit = of_tasks(list);
+    let fit = of_tasks(list, supply);
     if fit.number != 0 {
         return broken(fit);
-    }
-    let short = of_memory(list, supply);
-    if short.number != 0 {
-        return broken(short);
     }
     let run = of_cycle(list);
     let over = run.found;
@@ -221,6 +215,6 @@ pub fn check_bounds(list: TaskList, supply: u32) -> Bounds
     }
     Bounds::Kept {
         cycle: run.multiple,
-        jobs: count_jobs(list, run.multiple),
+        jobs: run.jobs,
     }
 }

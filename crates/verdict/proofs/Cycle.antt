@@ -148,7 +148,7 @@ module _ (n cycle : ℕ) (order periods dues runtimes : List ℕ) (S : Shown n c
       })
 
   -- ---- from an event to the next
-  module _ (room t next : ℕ) (lacks₀ releases events ends table₁ : List ℕ) (A : At P order room cycle t next lacks₀ releases events ends table₁) (lt : t < cycle) where
+  module _ (room t next : ℕ) (lacks₀ releases events ends table₁ : List ℕ) (so-far : At P order room cycle t next lacks₀ releases events ends table₁) (lt : t < cycle) where
     -- what the numbers keep to
     pub numbers-fit : (k : ℕ) → k < n → Fits (at periods k) (at dues k) (at releases k) (at events k) next
     numbers-fit k small =
@@ -157,25 +157,25 @@ module _ (n cycle : ℕ) (order periods dues runtimes : List ℕ) (S : Shown n c
         let li = below k lk in
         let c = B .keeps .cycle-within in
         record {
-          event-some = omega (arith, A .quiet k lk, A .ahead);
-          release-small = omega (arith, A .holds .release-is k lk, W .period-is k lk, release-age P sound i li t, period-small i li, C);
-          due-small = omega (arith, W .due-is k lk, sound .due-within i li, period-small i li, A .next-within lt, C);
+          event-some = omega (arith, so-far .quiet k lk, so-far .ahead);
+          release-small = omega (arith, so-far .holds .release-is k lk, W .period-is k lk, release-age P sound i li t, period-small i li, C);
+          due-small = omega (arith, W .due-is k lk, sound .due-within i li, period-small i li, so-far .next-within lt, C);
           due-some = omega (arith, W .due-is k lk, sound .due-pos i li);
         }
 
     on-time-here : lateness P t .task ≡ 0
-    on-time-here = sym (ap (λ (x : Late). x .task) (A .on-time))
+    on-time-here = sym (ap (λ (x : Late). x .task) (so-far .on-time))
 
     s : ℕ
     s = next - suc t
 
     is-next : next ≡ suc (t + s)
     unfolding s
-    is-next = omega (arith, A .ahead)
+    is-next = omega (arith, so-far .ahead)
 
     as-many : next - t ≡ suc s
     unfolding s
-    as-many = omega (arith, A .ahead)
+    as-many = omega (arith, so-far .ahead)
 
     module _ (lacks₁ ends₁ table₂ : List ℕ) (G₀ : HandedOut order dues lacks₀ ends table₁ n t next lacks₁ ends₁ table₂) (releases₂ events₂ lacks₂ : List ℕ) (r : Turned) where
       G : HandedOut order dues lacks₀ ends table₁ (P .count) t next lacks₁ ends₁ table₂
@@ -184,8 +184,8 @@ module _ (n cycle : ℕ) (order periods dues runtimes : List ℕ) (S : Shown n c
       -- The first that is late ends the walk.
       stopped : OneLate order (λ k. missingOf (at events k) (at lacks₁ k) next) n (r .late) → (r .late .task ≡ 0 → ⊥) → Walked P cycle order room ends₁ table₂ (r .late)
       stopped L nz =
-          let e : next + (cycle - next) ≡ cycle = omega (arith, A .next-within lt) in
-          let so = one-late-then P sound order periods dues runtimes W t s lacks₀ releases events ends (A .holds) on-time-here next is-next (A .quiet) lacks₁ ends₁ (rw as-many at (G .lacks-are)) (rw as-many at (G .ends-are)) (r .late) (rw count-is at L) in
+          let e : next + (cycle - next) ≡ cycle = omega (arith, so-far .next-within lt) in
+          let so = one-late-then P sound order periods dues runtimes W t s lacks₀ releases events ends (so-far .holds) on-time-here next is-next (so-far .quiet) lacks₁ ends₁ (rw as-many at (G .lacks-are)) (rw as-many at (G .ends-are)) (r .late) (rw count-is at L) in
           record {
             late-is = so ∙ sym (late-stays P next (cycle - next) (λ z. nz (ap (λ (x : Late). x .task) so ∙ z))) ∙ ap (lateness P) e;
             end-is = λ z. absurd (nz z);
@@ -198,19 +198,19 @@ module _ (n cycle : ℕ) (order periods dues runtimes : List ℕ) (S : Shown n c
 
         then-holds : Holds P next order lacks₂ releases₂ events₂ ends₁
         then-holds =
-            holds-next P sound order periods dues runtimes W t s lacks₀ releases events ends (A .holds) on-time-here next is-next (A .quiet) lacks₁ ends₁ (rw as-many at (G .lacks-are)) (rw as-many at (G .ends-are)) (T .none-late)
+            holds-next P sound order periods dues runtimes W t s lacks₀ releases events ends (so-far .holds) on-time-here next is-next (so-far .quiet) lacks₁ ends₁ (rw as-many at (G .lacks-are)) (rw as-many at (G .ends-are)) (T .none-late)
             releases₂ events₂ lacks₂ (T .events-are) (T .releases-are) (T .lacks-are)
 
         event-then : (k : ℕ) → k < P .count → eventThen periods dues runtimes releases events lacks₁ next k ≡ nextEvent P (at order k) next
         event-then k lk =
-            sym (ap (λ (x : List ℕ). at x k) (T .events-are) ∙ overwrite-at _ events 0 (P .count) k lk (omega (arith, A .holds .events-room)))
+            sym (ap (λ (x : List ℕ). at x k) (T .events-are) ∙ overwrite-at _ events 0 (P .count) k lk (omega (arith, so-far .holds .events-room)))
             ∙ then-holds .event-is k lk
 
         -- the table's entries up to the next event
         entries-then : cycle ≤ room → Tabled (table P) next room table₂
         entries-then enough =
-            let e = A .entries-are enough in
-            let w = G .writes (omega (arith, e .long, A .next-within lt)) (e .blank) in
+            let e = so-far .entries-are enough in
+            let w = G .writes (omega (arith, e .long, so-far .next-within lt)) (e .blank) in
             record {
               long = w .long ∙ e .long;
               written = λ x l.
@@ -218,21 +218,21 @@ module _ (n cycle : ℕ) (order periods dues runtimes : List ℕ) (S : Shown n c
                   (λ (new : t ≤ x).
                   let q : t + (x - t) ≡ x = omega arith in
                   sym (ap (at table₂) q)
-                  ∙ goes-to-one order (at lacks₀) (P .count) (x - t) _ _ (w .entries (x - t) (omega arith)) (entry-turn P sound order periods dues runtimes W t s lacks₀ releases events ends (A .holds) on-time-here next is-next (A .quiet) (x - t) (omega (arith, is-next)))
+                  ∙ goes-to-one order (at lacks₀) (P .count) (x - t) _ _ (w .entries (x - t) (omega arith)) (entry-turn P sound order periods dues runtimes W t s lacks₀ releases events ends (so-far .holds) on-time-here next is-next (so-far .quiet) (x - t) (omega (arith, is-next)))
                   ∙ ap (table P) q)
                   (λ (old : x < t). w .elsewhere x (inl old) ∙ e .written x old)
                   (le-or-lt t x);
-              blank = λ x l. w .elsewhere x (inr l) ∙ e .blank x (omega (arith, A .ahead));
+              blank = λ x l. w .elsewhere x (inr l) ∙ e .blank x (omega (arith, so-far .ahead));
             }
 
         went-on : At P order room cycle next (r .next) lacks₂ releases₂ events₂ ends₁ table₂
         unfolding planOf
         went-on = record {
           holds = then-holds;
-          on-time = none-late-then P sound order periods dues runtimes W t s lacks₀ releases events ends (A .holds) on-time-here next is-next (A .quiet) lacks₁ ends₁ (rw as-many at (G .lacks-are)) (rw as-many at (G .ends-are)) (T .none-late);
-          ahead = T .next-is .greatest (suc next) (omega (arith, A .next-within lt, C, B .keeps .cycle-within)) (λ k lk. omega (arith, event-then k lk, event-later P sound (at order k) (below k lk) next));
+          on-time = none-late-then P sound order periods dues runtimes W t s lacks₀ releases events ends (so-far .holds) on-time-here next is-next (so-far .quiet) lacks₁ ends₁ (rw as-many at (G .lacks-are)) (rw as-many at (G .ends-are)) (T .none-late);
+          ahead = T .next-is .greatest (suc next) (omega (arith, so-far .next-within lt, C, B .keeps .cycle-within)) (λ k lk. omega (arith, event-then k lk, event-later P sound (at order k) (below k lk) next));
           quiet = λ k lk. omega (arith, T .next-is .no-later k lk, event-then k lk, then-holds .event-is k lk);
-          within = A .next-within lt;
+          within = so-far .next-within lt;
           next-within = λ q. omega (arith, T .next-is .no-later 0 some, event-then 0 some, event-in-cycle (at order 0) next (below 0 some) q);
           entries-are = entries-then;
         }
@@ -248,12 +248,12 @@ module _ (n cycle : ℕ) (order periods dues runtimes : List ℕ) (S : Shown n c
   -- ---- at the cycle's end nothing was late
   pub ends-well : (room t next : ℕ) (lacks₀ releases events ends table₁ : List ℕ) → At P order room cycle t next lacks₀ releases events ends table₁ → cycle ≤ t
       → Walked P cycle order room ends table₁ (record { task = 0; short = 0 })
-  ends-well room t next lacks₀ releases events ends table₁ A q =
-      let e : t ≡ cycle = omega (arith, A .within) in
+  ends-well room t next lacks₀ releases events ends table₁ so-far q =
+      let e : t ≡ cycle = omega (arith, so-far .within) in
       record {
-        late-is = A .on-time ∙ ap (lateness P) e;
-        end-is = λ _ k lk. A .holds .end-is k lk ∙ ap (λ (x : ℕ). endBy P x (at order k)) e;
-        entries-are = λ _ enough x l. A .entries-are enough .written x (omega arith);
+        late-is = so-far .on-time ∙ ap (lateness P) e;
+        end-is = λ _ k lk. so-far .holds .end-is k lk ∙ ap (λ (x : ℕ). endBy P x (at order k)) e;
+        entries-are = λ _ enough x l. so-far .entries-are enough .written x (omega arith);
       }
 
   -- ---- the verdict, by what the walk came to

@@ -115,6 +115,25 @@ fn with_table(
     answer
 }
 
+// The slices that a task asks for in a cycle; behind the last task the numbers are 0.
+fn asks(period: u32, runtime: u32, cycle: u32) -> u64 {
+    if period == 0 {
+        return 0;
+    }
+    runtime as u64 * (cycle / period) as u64
+}
+
+// Whether the tasks ask for more slices than the cycle has. Only a hint of what to try first: it promises nothing.
+fn asks_too_much(periods: &[u32; 16], runtimes: &[u32; 16], cycle: u32) -> bool {
+    let mut asked: u64 = 0;
+    let mut k = 0;
+    while k < 16 {
+        asked = std::num::wrapping_add_u64(asked, asks(periods[k], runtimes[k], cycle));
+        k += 1;
+    }
+    (cycle as u64) < asked
+}
+
 // A list that keeps all bounds is refused for lateness, or accepted, with its table if that is long enough.
 fn decide(list: TaskList, cycle: u32, jobs: u32, table: &mut [u8]) -> Verdict
     requires { ⌜ Bounded list × (cycle ≡ cycleOf list) ⌝ }
@@ -154,6 +173,23 @@ fn decide(list: TaskList, cycle: u32, jobs: u32, table: &mut [u8]) -> Verdict
             &mut entries,
             table,
         );
+    }
+    // a list that asks for too much should be late: it is tried without entries first, which take a while to make
+    if asks_too_much(&periods, &runtimes, cycle) {
+        let mut none = [0u8; 0];
+        let answer = conclude(
+            &order,
+            &periods,
+            &dues,
+            &runtimes,
+            count,
+            cycle,
+            jobs,
+            &mut none,
+        );
+        if let Verdict::Refused { .. } = answer {
+            return answer;
+        }
     }
     let mut entries = [0u8; 4096];
     with_table(

@@ -11,9 +11,6 @@ returns : tie.Need-returns
 unfolding lcmOf
 returns c = let a = c .before .args in rw (c .if1 .taken, zero-div (gcdOf 0 (a .b)), zero-mul (a .b))
 
-gcd-requires : tie.Need-gcd-requires
-gcd-requires c κs = search needs
-
 div-result : tie.Need-div-result
 div-result c = omega (arith, gcd-pos (c .before .before .args .a) (c .before .before .args .b) (omega (arith, c .before .if1 .left)))
 
@@ -31,4 +28,4 @@ unfolding lcmOf
 returns-2 c = cc
 
 pub lcm-spec : {M : Type 1} → statement M
-lcm-spec = tie.close (tie.spec returns gcd-requires div-result cast-result mul-result returns-2)
+lcm-spec = tie.close (tie.spec returns (λ c κs. search needs) div-result cast-result mul-result returns-2)

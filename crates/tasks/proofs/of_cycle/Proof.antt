@@ -1,13 +1,16 @@
--- `tasks::of_cycle` meets its contract: up to task i no multiple was above 4,096, so the next one fits.
-use Prim.Native.Nat.{_≤_, _-_}
+-- `tasks::of_cycle` meets its contract: up to task i no multiple was above 4,096, so the next one fits; and up to 16 numbers
+-- up to 4,096 add up to no more than 65,536.
+use Prim.Native.Nat.{_≤_, _-_, _*_}
 use mathlib.Core.Path.{_≡_, refl}
 use native.Mathlib.Omega.{arith}
-use borrow.Author.Needs.{needs}
 use native.Mathlib.Numerals.{add-one}
-use Rattle.tasks.proofs.Steps.{nothing-yet, nothing-here, found-here, nothing-at-all, one-more-multiple, exceeds, keeps-to}
-use Rattle.basis.specs.Answer.{firstFound}
+use native.Mathlib.Nat.{div-le-self}
+use borrow.Author.Needs.{needs}
+use Rattle.basis.specs.Sum.{sum}
+use Rattle.basis.specs.Answer.{refusal, none, firstFound}
 use Rattle.tasks.specs.List.{taskAt, noTask}
-use Rattle.tasks.specs.Bounds.{ofCycle, multiple as multipleOf}
+use Rattle.tasks.specs.Bounds.{ofCycle, multiple as multipleOf, jobSum}
+use Rattle.tasks.proofs.Steps.{finds, nothing-here, found-here, exceeds, keeps-to, one-more-multiple, one-more-jobs}
 use Rattle.tasks.proofs.of_cycle.Statement.{statement}
 use Rattle.tasks.proofs.of_cycle.Tie as tie
 
@@ -17,46 +20,53 @@ Inv-loop list tasks multiple₀ i₀ multiple i = (i ≤ list .count) × (multip
 abbrev μ-loop : tie.MeasureT-loop
 μ-loop list tasks multiple₀ i₀ multiple i = list .count - i
 
-loop-holds : tie.Need-loop-holds Inv-loop μ-loop
-unfolding multipleOf
-loop-holds c = (omega arith, omega arith, refl, nothing-yet (ofCycle _))
+abbrev Inv-loop2 : tie.InvT-loop2
+Inv-loop2 list tasks multiple i jobs₀ j₀ jobs j = (j ≤ list .count) × (jobs ≡ jobSum tasks multiple j) × (jobs ≤ j * 4096)
 
-mul-t : tie.Need-mul-t Inv-loop μ-loop
-mul-t c = omega (arith, c .before .before .before .before .pre .few)
+abbrev μ-loop2 : tie.MeasureT-loop2
+μ-loop2 list tasks multiple i jobs₀ j₀ jobs j = list .count - j
 
-array-copy-out-t : tie.Need-array-copy-out-t Inv-loop μ-loop
-array-copy-out-t c = omega (arith, c .before .before .before .before .pre .few)
+loop-holds : tie.Need-loop-holds Inv-loop μ-loop Inv-loop2 μ-loop2
+unfolding multipleOf firstFound none refusal
+loop-holds c = (omega arith, omega arith, refl, refl)
 
-lcm-requires : tie.Need-lcm-requires Inv-loop μ-loop
-lcm-requires c κs = search needs
-
-add-t12 : tie.Need-add-t12 Inv-loop μ-loop
-add-t12 c = omega (arith, c .before .before .before .before .before .before .before .pre .few)
-
-returns : tie.Need-returns Inv-loop μ-loop
-unfolding taskAt noTask ofCycle
+returns : tie.Need-returns Inv-loop μ-loop Inv-loop2 μ-loop2
+unfolding taskAt noTask
 returns c = record {
-  over = found-here (ofCycle _) _ _ _ (c .before .before .before .if1 .taken) (c .before .before .before .before .before .loop .inv .3) (exceeds _ 5 _ _ _ (one-more-multiple _ _ _ _ (c .before .before .before .before .before .loop .inv .2) (c .before .lcm .ensures)) (c .if2 .taken)) (λ z. omega arith);
+  over = finds _ _ (found-here _ _ _ _ (c .before .before .before .if1 .taken) (c .before .before .before .before .before .loop .inv .3) (exceeds _ _ _ _ (c .before .before .before .before .before .loop .inv .2) (c .before .lcm .ensures) (c .if2 .taken)) (λ z. omega arith));
   multiple-is = λ z. absurd (omega arith);
+  jobs-is = λ z. absurd (omega arith);
 }
 
-cast-multiple : tie.Need-cast-multiple Inv-loop μ-loop
-cast-multiple c = record { fits = omega (arith, c .if2 .left) }
+loop-again : tie.Need-loop-again Inv-loop μ-loop Inv-loop2 μ-loop2
+unfolding taskAt noTask
+loop-again c = (omega arith, c .if2 .left, rw (add-one _) (one-more-multiple _ _ _ _ (c .before .before .before .before .before .loop .inv .2) (c .before .lcm .ensures)), nothing-here _ _ (c .before .before .before .before .before .loop .inv .3) (keeps-to _ _ _ _ (c .before .before .before .before .before .loop .inv .2) (c .before .lcm .ensures) (c .if2 .left)))
 
-add-i : tie.Need-add-i Inv-loop μ-loop
-add-i c = omega (arith, c .before .before .before .before .before .before .before .pre .few)
+loop2-holds : tie.Need-loop2-holds Inv-loop μ-loop Inv-loop2 μ-loop2
+unfolding jobSum sum
+loop2-holds c = (omega arith, refl, omega arith)
 
-loop-less : tie.Need-loop-less Inv-loop μ-loop
-loop-less c = omega arith
+div-jobs : tie.Need-div-jobs Inv-loop μ-loop Inv-loop2 μ-loop2
+unfolding taskAt noTask
+div-jobs c = c .before .before .before .before .before .before .before .before .before .pre .fits (c .before .before .before .before .loop2 .j) (c .before .before .if3 .taken) .period-from
 
-loop-again : tie.Need-loop-again Inv-loop μ-loop
-unfolding taskAt noTask ofCycle
-loop-again c =
-    let next = one-more-multiple (c .before .before .before .before .before .before .before .args .list .tasks) _ _ _ (c .before .before .before .before .before .loop .inv .2) (c .before .lcm .ensures) in
-    (omega arith, c .if2 .left, rw (add-one _) next, nothing-here (ofCycle _) _ (c .before .before .before .before .before .loop .inv .3) (keeps-to _ 5 _ _ _ next (c .if2 .left)))
+add-jobs : tie.Need-add-jobs Inv-loop μ-loop Inv-loop2 μ-loop2
+unfolding taskAt noTask
+add-jobs c = omega (arith, c .before .before .before .before .before .before .before .before .before .pre .few, div-le-self (c .before .before .before .before .before .before .before .loop .multiple) (taskAt (c .before .before .before .before .before .before .before .before .before .args .list .tasks) (c .before .before .before .before .loop2 .j) .period))
 
-returns-2 : tie.Need-returns-2 Inv-loop μ-loop
-returns-2 c = record { over = nothing-at-all _ _ _ 0 (omega arith) (c .before .before .loop .inv .3); multiple-is = λ _. let end : c .before .before .loop .i ≡ c .before .before .before .before .args .list .count = omega arith in rw end at (c .before .before .loop .inv .2) }
+loop2-again : tie.Need-loop2-again Inv-loop μ-loop Inv-loop2 μ-loop2
+unfolding taskAt noTask
+loop2-again c = (omega arith, one-more-jobs _ _ _ _ (c .before .before .before .before .loop2 .inv .1), omega (arith, div-le-self (c .before .before .before .before .before .before .before .loop .multiple) (taskAt (c .before .before .before .before .before .before .before .before .before .args .list .tasks) (c .before .before .before .before .loop2 .j) .period)))
+
+returns-2 : tie.Need-returns-2 Inv-loop μ-loop Inv-loop2 μ-loop2
+returns-2 c =
+    let end : c .before .before .before .before .before .loop .i ≡ c .before .before .before .before .before .before .before .args .list .count = omega arith in
+    let end2 : c .before .before .loop2 .j ≡ c .before .before .before .before .before .before .before .args .list .count = omega arith in
+    record {
+      over = record { nothing = λ _. rw end at (c .before .before .before .before .before .loop .inv .3); this = λ some. absurd (some refl) };
+      multiple-is = λ _. rw end at (c .before .before .before .before .before .loop .inv .2);
+      jobs-is = λ _. rw end2 at (c .before .before .loop2 .inv .1);
+    }
 
 pub of-cycle-spec : {M : Type 1} → statement M
 of-cycle-spec =
@@ -64,14 +74,24 @@ of-cycle-spec =
     (tie.spec
     Inv-loop
     μ-loop
+    Inv-loop2
+    μ-loop2
     loop-holds
-    mul-t
-    array-copy-out-t
-    lcm-requires
-    add-t12
+    (λ c. search needs)
+    (λ c. search needs)
+    (λ c κs. search needs)
+    (λ c. search needs)
     returns
-    cast-multiple
-    add-i
-    loop-less
+    (λ c. search needs)
+    (λ c. search needs)
+    (λ c. search needs)
     loop-again
+    loop2-holds
+    (λ c. search needs)
+    (λ c. search needs)
+    div-jobs
+    add-jobs
+    (λ c. search needs)
+    (λ c. search needs)
+    loop2-again
     returns-2)

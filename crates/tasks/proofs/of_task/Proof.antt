@@ -8,15 +8,9 @@ use borrow.Author.Needs.{needs}
 use Rattle.tasks.proofs.of_task.Statement.{statement}
 use Rattle.tasks.proofs.of_task.Tie as tie
 
-is-within-requires : tie.Need-is-within-requires
-is-within-requires c κs = search needs
-
 returns : tie.Need-returns
 unfolding ofNumbers refusal
 returns c = yes-so _ _ _ _ (sym (ap not (c .before .is-within .ensures)) ∙ c .if1 .taken) refl
-
-is-within-requires-2 : tie.Need-is-within-requires-2
-is-within-requires-2 c κs = search needs
 
 returns-2 : tie.Need-returns-2
 unfolding ofNumbers refusal
@@ -32,4 +26,4 @@ returns-3 c =
 
 pub of-task-spec : {M : Type 1} → statement M
 of-task-spec =
-    tie.close (tie.spec is-within-requires returns is-within-requires-2 returns-2 returns-3)
+    tie.close (tie.spec (λ c κs. search needs) returns (λ c κs. search needs) returns-2 returns-3)

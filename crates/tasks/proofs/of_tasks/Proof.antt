@@ -1,51 +1,55 @@
--- `tasks::of_tasks` meets its contract: up to task i nothing was found.
-use Prim.Native.Nat.{_≤_, _-_}
-use mathlib.Core.Path.{_≡_}
+-- `tasks::of_tasks` meets its contract: up to task i nothing was found by 3 and 4, and of the memory what there is to find.
+use mathlib.Core.List.{List}
+use Prim.Native.Nat.{ℕ, _≤_, _-_, _*_}
+use mathlib.Core.Path.{_≡_, refl, sym, _∙_}
 use native.Mathlib.Omega.{arith}
-use Rattle.tasks.proofs.Steps.{nothing-yet, nothing-here, found-here, nothing-at-all, of-task-at}
-use Rattle.basis.specs.Answer.{refusal, firstFound}
+use native.Mathlib.Numerals.{add-one}
+use borrow.Author.Needs.{needs}
+use Rattle.basis.specs.Sum.{sum as sumOf}
+use Rattle.basis.specs.Answer.{refusal, none, _orElse_, firstFound, none-number, else-found}
+use Rattle.tasks.specs.declared.Task.{Task}
 use Rattle.tasks.specs.List.{taskAt, noTask}
-use Rattle.tasks.specs.Bounds.{ofTask}
+use Rattle.tasks.specs.Bounds.{ofTask, ofMemory, memorySum}
+use Rattle.tasks.specs.Shapes.{shortAt}
+use Rattle.tasks.proofs.Steps.{finds, still-first, short-some, short-none, nothing-here, found-here, of-task-at, one-more-memory, one-more-short}
 use Rattle.tasks.proofs.of_tasks.Statement.{statement}
 use Rattle.tasks.proofs.of_tasks.Tie as tie
 
 abbrev Inv-loop : tie.InvT-loop
-Inv-loop list tasks i₀ i = (i ≤ list .count) × (firstFound (ofTask tasks) i .number ≡ 0)
+Inv-loop list supply tasks short₀ sum₀ i₀ short sum i = (i ≤ list .count) × (sum ≤ i * 4294967296) × (sum ≡ memorySum tasks i) × (firstFound (ofTask tasks) i .number ≡ 0) × (shortAt short ≡ firstFound (ofMemory tasks supply) i)
 
 abbrev μ-loop : tie.MeasureT-loop
-μ-loop list tasks i₀ i = list .count - i
+μ-loop list supply tasks short₀ sum₀ i₀ short sum i = list .count - i
 
 loop-holds : tie.Need-loop-holds Inv-loop μ-loop
-loop-holds c = (omega arith, nothing-yet (ofTask (c .before .args .list .tasks)))
-
-mul-t : tie.Need-mul-t Inv-loop μ-loop
-mul-t c = omega (arith, c .before .before .before .before .pre)
-
-array-copy-out-t : tie.Need-array-copy-out-t Inv-loop μ-loop
-array-copy-out-t c = omega (arith, c .before .before .before .before .pre)
-
-add-of-task : tie.Need-add-of-task Inv-loop μ-loop
-add-of-task c = omega (arith, c .before .before .before .before .before .pre)
-
-of-task-requires : tie.Need-of-task-requires Inv-loop μ-loop
-of-task-requires c κs = tt
+unfolding memorySum sumOf firstFound
+loop-holds c = (omega arith, omega arith, refl, none-number, short-none 0 refl)
 
 returns : tie.Need-returns Inv-loop μ-loop
 unfolding taskAt noTask
-returns c = found-here _ _ _ _ (c .before .before .before .before .if1 .taken) (c .before .before .before .before .before .before .loop .inv .1) (of-task-at _ _ _ (c .before .before .of-task .ensures)) (c .if2 .taken)
-
-add-i : tie.Need-add-i Inv-loop μ-loop
-add-i c = omega (arith, c .before .before .before .before .before .before .before .before .pre)
-
-loop-less : tie.Need-loop-less Inv-loop μ-loop
-loop-less c = omega arith
+returns c = finds _ _ (still-first _ _ _ (found-here _ _ _ _ (c .before .before .before .before .if1 .taken) (c .before .before .before .before .before .before .loop .inv .3) (of-task-at _ _ _ (c .before .before .of-task .ensures)) (c .if2 .taken)) (c .if2 .taken))
 
 loop-again : tie.Need-loop-again Inv-loop μ-loop
 unfolding taskAt noTask refusal
-loop-again c = (omega arith, nothing-here _ _ (c .before .before .before .before .before .before .loop .inv .1) (rw (← of-task-at _ _ _ (c .before .before .of-task .ensures)) (c .if2 .left)))
+loop-again c =
+    let summed = one-more-memory _ _ _ _ (c .before .before .before .before .before .before .before .before .loop .inv .2) (c .before .wide .ensures .0) in
+    (omega arith, omega arith, rw (add-one _) summed, nothing-here _ _ (c .before .before .before .before .before .before .before .before .loop .inv .3) (rw (← of-task-at _ _ _ (c .before .before .before .before .of-task .ensures)) (c .before .before .if2 .left)), one-more-short _ _ _ _ _ _ (c .before .before .before .before .before .before .before .before .loop .inv .4) summed (c .of-sum .ensures))
+
+-- at the end, what the memory says
+memory-says : (tasks : List Task) (supply count short i : ℕ) → i ≡ count → firstFound (ofTask tasks) i .number ≡ 0 → shortAt short ≡ firstFound (ofMemory tasks supply) i
+    → (firstFound (ofTask tasks) count orElse firstFound (ofMemory tasks supply) count) ≡ shortAt short
+memory-says tasks supply count short i end so-far is = else-found _ _ (rw end at so-far) ∙ sym (rw end at is)
 
 returns-2 : tie.Need-returns-2 Inv-loop μ-loop
-returns-2 c = nothing-at-all _ _ _ 0 (omega arith) (c .before .before .loop .inv .1)
+unfolding none
+returns-2 c =
+    let h = c .before .before .before .loop .inv in
+    finds _ _ (memory-says _ _ _ _ _ (omega arith) (h .3) (h .4) ∙ short-none _ (c .if3 .taken))
+
+returns-3 : tie.Need-returns-3 Inv-loop μ-loop
+returns-3 c =
+    let h = c .before .before .before .loop .inv in
+    finds _ _ (memory-says _ _ _ _ _ (omega arith) (h .3) (h .4) ∙ short-some _ (c .if3 .left))
 
 pub of-tasks-spec : {M : Type 1} → statement M
 of-tasks-spec =
@@ -54,12 +58,17 @@ of-tasks-spec =
     Inv-loop
     μ-loop
     loop-holds
-    mul-t
-    array-copy-out-t
-    add-of-task
-    of-task-requires
+    (λ c. search needs)
+    (λ c. search needs)
+    (λ c. search needs)
+    (λ c κs. search needs)
     returns
-    add-i
-    loop-less
+    (λ c κs. search needs)
+    (λ c. search needs)
+    (λ c. search needs)
+    (λ c κs. search needs)
+    (λ c. search needs)
+    (λ c. search needs)
     loop-again
-    returns-2)
+    returns-2
+    returns-3)
