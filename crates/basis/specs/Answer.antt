@@ -7,7 +7,7 @@ use native.Mathlib.Omega.{arith}
 use lib.Dec.{eqb}
 use lib.IntN.{ℤ, pos}
 use borrow.Author.Tests.{eq-eqb, ne-eqb}
-use Rattle.basis.specs.Choose.{choose, choose-yes, choose-no, eq-or-ne, below-suc}
+use Rattle.basis.specs.Choose.{choose, choose-yes, choose-no, of-choice, eq-or-ne, below-suc}
 
 -- The number of refusal, 0 for none; the task that is named (of the program's input, the line); the margin; the cycle and the
 -- job count. What an answer does not give is 0.
@@ -34,6 +34,10 @@ a orElse b = choose (eqb (a .number) 0) b a
 unfoldable pub firstFound : (ℕ → Answer) → ℕ → Answer
 firstFound find zero = none
 firstFound find (suc n) = firstFound find n orElse find n
+
+-- Two answers of the same values are one.
+pub alike : (a b : Answer) → a .number ≡ b .number → a .task ≡ b .task → a .margin ≡ b .margin → a .cycle ≡ b .cycle → a .jobs ≡ b .jobs → a ≡ b
+alike a b n t m c j = λ k. record { number = n k; task = t k; margin = m k; cycle = c k; jobs = j k }
 
 -- Where a test refuses, or where it lets pass, and no refusal comes of it: what the test was.
 pub passed-if : (b : Bool) (n t : ℕ) (a : Answer) → (choose b (refusal (suc n) t) a .number ≡ 0) ↔ ((b ≡ false) × (a .number ≡ 0))
@@ -74,6 +78,16 @@ pub else-choose : (t : Bool) (n task : ℕ) (b : Answer) → (choose t (refusal 
 unfolding refusal none choose
 else-choose true n task b = else-kept (refusal (suc n) task) b (λ z. omega arith)
 else-choose false n task b = else-found none b refl
+
+-- By number: where the test refuses, and where it lets pass.
+pub number-if : (t : Bool) (n : ℕ) (b : Answer) → (choose t (refusal (suc n) 0) none orElse b) .number ≡ choose t (suc n) (b .number)
+unfolding refusal
+number-if t n b = ap (λ (x : Answer). x .number) (else-choose t n 0 b) ∙ of-choice (λ (x : Answer). x .number) t (refusal (suc n) 0) b
+
+pub number-unless : (t : Bool) (n : ℕ) (b : Answer) → (choose t none (refusal (suc n) 0) orElse b) .number ≡ choose t (b .number) (suc n)
+unfolding refusal none choose
+number-unless true n b = ap (λ (x : Answer). x .number) (else-found none b refl)
+number-unless false n b = ap (λ (x : Answer). x .number) (else-kept (refusal (suc n) 0) b (λ z. omega arith))
 
 module _ (find : ℕ → Answer) where
   pub found-none : (n : ℕ) → firstFound find n .number ≡ 0 → (i : ℕ) → i < n → find i .number ≡ 0

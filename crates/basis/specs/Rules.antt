@@ -6,7 +6,7 @@ use Prim.Native.Nat.{ℕ, suc, _<_}
 use native.Mathlib.Omega.{arith}
 use lib.IntN.{ℤ, pos}
 use Rattle.basis.specs.Choose.{choose, choose-yes, choose-no, bool-cases, eq-or-ne}
-use Rattle.basis.specs.Answer.{Answer, refusal, none, _orElse_, firstFound, none-number, else-found, else-kept, found-at, first-is}
+use Rattle.basis.specs.Answer.{alike, Answer, refusal, none, _orElse_, firstFound, none-number, else-found, else-kept, found-at, first-is}
 
 -- A rule: the number of its refusal, and when it is broken, naming which task with which margin.
 pub record Rule : Type 1 where
@@ -78,39 +78,39 @@ either (r then rs) qs a (inr h) =
 
 -- What goes by some rules, or else by others, goes by the ones and then the others.
 pub goes-on : (rs qs : Rules) (a b : Answer) → GoesBy rs a → (a .number ≡ 0 → GoesBy qs b) → GoesBy (rs andThen qs) (a orElse b)
-goes-on rs qs a b A B = record {
+goes-on rs qs a b goes goes-next = record {
   only = λ nz.
       ⊎-elim
       (λ (z : a .number ≡ 0).
       let e = else-found a b z in
       subst (Refused (rs andThen qs)) (sym e)
-      (later rs qs b (λ c h. refused-not-0 rs c h (sym (ap (λ (x : Answer). x .number) (A .always c h)) ∙ z)) (B z .only (λ zb. nz (ap (λ (x : Answer). x .number) e ∙ zb)))))
-      (λ (some : a .number ≡ 0 → ⊥). subst (Refused (rs andThen qs)) (sym (else-kept a b some)) (earlier rs qs a (A .only some)))
+      (later rs qs b (λ c h. refused-not-0 rs c h (sym (ap (λ (x : Answer). x .number) (goes .always c h)) ∙ z)) (goes-next z .only (λ zb. nz (ap (λ (x : Answer). x .number) e ∙ zb)))))
+      (λ (some : a .number ≡ 0 → ⊥). subst (Refused (rs andThen qs)) (sym (else-kept a b some)) (earlier rs qs a (goes .only some)))
       (eq-or-ne (a .number) 0);
   always = λ c R.
       ⊎-elim
       (λ (h : Refused rs c).
-      let e = A .always c h in
+      let e = goes .always c h in
       else-kept a b (λ z. refused-not-0 rs c h (sym (ap (λ (x : Answer). x .number) e) ∙ z)) ∙ e)
       (λ (h : Kept rs × Refused qs c).
-      ⊎-elim (λ (z : a .number ≡ 0). else-found a b z ∙ B z .always c (h .1)) (λ (some : a .number ≡ 0 → ⊥). absurd (h .0 a (A .only some))) (eq-or-ne (a .number) 0))
+      ⊎-elim (λ (z : a .number ≡ 0). else-found a b z ∙ goes-next z .always c (h .1)) (λ (some : a .number ≡ 0 → ⊥). absurd (h .0 a (goes .only some))) (eq-or-ne (a .number) 0))
       (either rs qs c R);
 }
 
 -- So does an answer that refuses as one that goes by the ones, and else goes by the others.
 pub goes-then : (rs qs : Rules) (a c : Answer) → GoesBy rs a → ((a .number ≡ 0 → ⊥) → c ≡ a) → (a .number ≡ 0 → GoesBy qs c) → GoesBy (rs andThen qs) c
-goes-then rs qs a c A refuses goes-by =
+goes-then rs qs a c goes refuses goes-by =
     subst (GoesBy (rs andThen qs))
     (⊎-elim (λ (z : a .number ≡ 0). else-found a c z) (λ (some : a .number ≡ 0 → ⊥). else-kept a c some ∙ sym (refuses some)) (eq-or-ne (a .number) 0))
-    (goes-on rs qs a c A goes-by)
+    (goes-on rs qs a c goes goes-by)
 
 -- And one that refuses as another does.
 pub goes-as : (rs : Rules) (a b : Answer) → GoesBy rs a → (a .number ≡ 0 → b .number ≡ 0) → ((a .number ≡ 0 → ⊥) → b ≡ a) → GoesBy rs b
-goes-as rs a b A none-too alike = record {
-  only = λ nz. subst (Refused rs) (sym (alike (λ z. nz (none-too z)))) (A .only (λ z. nz (none-too z)));
+goes-as rs a b goes none-too same = record {
+  only = λ nz. subst (Refused rs) (sym (same (λ z. nz (none-too z)))) (goes .only (λ z. nz (none-too z)));
   always = λ c h.
-      let e = A .always c h in
-      alike (λ z. refused-not-0 rs c h (sym (ap (λ (x : Answer). x .number) e) ∙ z)) ∙ e;
+      let e = goes .always c h in
+      same (λ z. refused-not-0 rs c h (sym (ap (λ (x : Answer). x .number) e) ∙ z)) ∙ e;
 }
 
 -- One rule, by a test, where there is no refusal else.
@@ -122,13 +122,13 @@ by-test r t a x passes breaks told = record {
       (λ (y : t ≡ true). inl (subst (Breaks r) (sym (choose-yes t a x y)) (breaks y)))
       (λ (n : t ≡ false). absurd (nz (ap (λ (c : Answer). c .number) (choose-no t a x n) ∙ passes)))
       (bool-cases t);
-  always = λ b h. ⊎-elim (λ (B : Breaks r b). choose-yes t a x (told b B .0) ∙ told b B .1) (λ z. absurd (z .1)) h;
+  always = λ b h. ⊎-elim (λ (breaks : Breaks r b). choose-yes t a x (told b breaks .0) ∙ told b breaks .1) (λ z. absurd (z .1)) h;
 }
 
 -- An answer that refuses is told by its values.
 refusal-is : (a : Answer) (number task : ℕ) → a .number ≡ number → a .task ≡ task → a .margin ≡ pos 0 → a .cycle ≡ 0 → a .jobs ≡ 0 → refusal number task ≡ a
 unfolding refusal
-refusal-is a number task n t m c j = sym (λ k. record { number = n k; task = t k; margin = m k; cycle = c k; jobs = j k })
+refusal-is a number task n t m c j = sym (alike a (refusal number task) n t m c j)
 
 module _ (number : ℕ) where
   pub breaks-rule : (P : Type 0) → P → Breaks (rule (suc number) P) (refusal (suc number) 0)
@@ -137,7 +137,7 @@ module _ (number : ℕ) where
 
   pub rule-told : (P : Type 0) (b : Answer) → Breaks (rule (suc number) P) b → P × (refusal (suc number) 0 ≡ b)
   unfolding rule
-  rule-told P b B = (B .broken .2, refusal-is b (suc number) 0 (B .number-is) (B .broken .0) (B .broken .1) (B .cycle-0) (B .jobs-0))
+  rule-told P b breaks = (breaks .broken .2, refusal-is b (suc number) 0 (breaks .number-is) (breaks .broken .0) (breaks .broken .1) (breaks .cycle-0) (breaks .jobs-0))
 
   pub breaks-naming : (P : ℕ → Type 0) (i : ℕ) → P i → Breaks (naming (suc number) P) (refusal (suc number) (suc i))
   unfolding naming refusal
@@ -145,13 +145,13 @@ module _ (number : ℕ) where
 
   pub naming-told : (P : ℕ → Type 0) (b : Answer) → Breaks (naming (suc number) P) b → (i : ℕ) × (P i × (refusal (suc number) (suc i) ≡ b))
   unfolding naming
-  naming-told P b B =
-      let h = B .broken in
-      (h .0, (h .1 .2, refusal-is b (suc number) (suc (h .0)) (B .number-is) (h .1 .0) (h .1 .1) (B .cycle-0) (B .jobs-0)))
+  naming-told P b breaks =
+      let h = breaks .broken in
+      (h .0, (h .1 .2, refusal-is b (suc number) (suc (h .0)) (breaks .number-is) (h .1 .0) (h .1 .1) (breaks .cycle-0) (breaks .jobs-0)))
 
   pub goes-by-rule : (P : Type 0) (t : Bool) (x : Answer) → x .number ≡ 0 → (t ≡ true → P) → (P → t ≡ true) → GoesBy (rule (suc number) P then no-more) (choose t (refusal (suc number) 0) x)
   goes-by-rule P t x passes to from =
-      by-test (rule (suc number) P) t (refusal (suc number) 0) x passes (λ y. breaks-rule P (to y)) (λ b B. let h = rule-told P b B in (from (h .0), h .1))
+      by-test (rule (suc number) P) t (refusal (suc number) 0) x passes (λ y. breaks-rule P (to y)) (λ b breaks. let h = rule-told P b breaks in (from (h .0), h .1))
 
   pub goes-unless : (P : Type 0) (t : Bool) → (t ≡ false → P) → (P → t ≡ false) → GoesBy (rule (suc number) P then no-more) (choose t none (refusal (suc number) 0))
   unfolding choose

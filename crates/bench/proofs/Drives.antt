@@ -18,10 +18,10 @@ module _ (l : TaskList) (supply : ℕ) (asked : Asked) (clock : ℕ) (needs tabl
       → _≡_ {A = Course} (record { state = r .state; log = log′; ends = ends′ }) (courseAt table′ (needIn needs (s .state)) (record { state = s .state; log = log₁; ends = ends₁ }) (s .state .cycle))
       → Drives l supply asked clock needs table table′ log log′ ends ends′ r
   unfolding begun
-  driven B S e cleared went =
+  driven table-is S e cleared went =
       let first : _≡_ {A = Course} (record { state = s .state; log = log₁; ends = ends₁ }) (begun l supply asked clock log ends) = cc (S .state, S .bytes) in
       record {
-        built = B;
+        built = table-is;
         started = e ∙ S .answer;
         whole = went ∙ ap (λ (c : Course). courseAt table′ (needIn needs (c .state)) c (c .state .cycle)) first;
       }

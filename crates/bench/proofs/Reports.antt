@@ -58,8 +58,8 @@ module _ (s : State) (table : List ℕ) (r : Runner) (told : r ≡ whoOf s table
   unfolding whoOf
   runs-in n e =
       let h = task-told (whoRefusal s table) (running s table) n (sym told ∙ e) in
-      let A = who-accepted s table .0 (h .0) in
-      (A .is-sound, omega (arith, h .1, running-to s table A))
+      let accepted = who-accepted s table .0 (h .0) in
+      (accepted .is-sound, omega (arith, h .1, running-to s table accepted))
 
   module _ (need : Demand) where
     pub told-reports : (n report : ℕ) → runnerAnswer r .task ≡ n → report ≡ reportOf need s n → report ≡ reportIn table need s

@@ -4,15 +4,10 @@ use mathlib.Core.List.{List}
 use Prim.Native.Nat.{ℕ, _≤_}
 use native.Mathlib.Omega.{arith}
 use lib.Dec.{ltb, eqb}
-use lib.IntN.{pos}
 use lib.ListN.{length}
 use borrow.Author.Tests.{lt-ltb, le-ltb, eq-eqb, ne-eqb}
 use Rattle.basis.specs.Choose.{choose, choose-yes, choose-no}
 use Rattle.basis.specs.Answer.{refusal}
-use Rattle.tasks.specs.declared.TaskList.{TaskList}
-use Rattle.verdict.specs.declared.Verdict.{Verdict}
-use Rattle.verdict.specs.declared.Verdict.the-variants.{Accepted, Refused}
-use Rattle.verdict.specs.Verdict.{verdictOf}
 use Rattle.records.specs.Grammar.{Read, readOf}
 use Rattle.records.specs.Reading.{reads-only}
 use Rattle.records.specs.Shapes.{parsedOf}

@@ -80,11 +80,11 @@ module _ (l : TaskList) (v : Verdict) (e : v ≡ verdictOf l 65536) (cycle jobs 
       let K = accepted-tells l 65536 cycle jobs task margin (sym e ∙ q) in
       omega (arith, ap (λ (x : Verdict). verdictAnswer x .cycle) (K .is), K .keeps .cycle-within)
 
-  module _ (lent built : List ℕ) (room : 4096 ≤ length lent) (w : Verdict) (B : Built l 65536 lent built w) where
+  module _ (lent built : List ℕ) (room : 4096 ≤ length lent) (w : Verdict) (is-built : Built l 65536 lent built w) where
     -- A table of 4,096 entries is never too short.
     built-accepted : w ≡ Accepted cycle jobs task margin
     unfolding fitted
-    built-accepted = B .answer ∙ ap (λ (x : Verdict). fitted x (length lent)) (sym e ∙ q) ∙ choose-no _ _ _ (le-ltb (length lent) cycle (omega (arith, within)))
+    built-accepted = is-built .answer ∙ ap (λ (x : Verdict). fitted x (length lent)) (sym e ∙ q) ∙ choose-no _ _ _ (le-ltb (length lent) cycle (omega (arith, within)))
 
     pub never-short : {A : Type 0} (number task′ : ℕ) (margin′ : ℤ) → w ≡ Refused number task′ margin′ → A
     never-short number task′ margin′ short =
@@ -94,15 +94,15 @@ module _ (l : TaskList) (v : Verdict) (e : v ≡ verdictOf l 65536) (cycle jobs 
 
     pub table-printed : take cycle built ≡ entries l cycle
     unfolding tabled entries
-    table-printed = ap (take cycle) (B .bytes ∙ ap (λ (x : Verdict). tabled l x lent) built-accepted) ∙ first-entries (table (planOf l)) lent cycle (omega (arith, within))
+    table-printed = ap (take cycle) (is-built .bytes ∙ ap (λ (x : Verdict). tabled l x lent) built-accepted) ∙ first-entries (table (planOf l)) lent cycle (omega (arith, within))
 
   pub answers-table : {input old new : List ℕ} {r : ℕ} (p : Parsed) → p .list ≡ l → p .form ≡ Good → length input ≤ 4096 → Reads input (readOf p)
       → (lent built : List ℕ) → 4096 ≤ length lent → (w : Verdict) → Built l 65536 lent built w
       → Written (tableText (take cycle built)) old new r → (cycle ≤ 4096 → r ≤ 40972) → Answers input old new r × (r ≤ 40972)
   unfolding readOf verdictAnswer
-  answers-table {old = old} {new = new} {r = r} p pl good li R lent built room w B W fits =
+  answers-table {old = old} {new = new} {r = r} p pl good li R lent built room w is-built W fits =
       let judged = ap (λ (x : TaskList). verdictOf x 65536) pl ∙ sym e ∙ q in
-      let shown = table-printed lent built room w B ∙ ap₂ entries (sym pl) (sym (ap (λ (x : Verdict). verdictAnswer x .cycle) judged)) in (
+      let shown = table-printed lent built room w is-built ∙ ap₂ entries (sym pl) (sym (ap (λ (x : Verdict). verdictAnswer x .cycle) judged)) in (
         record {
           text = _;
           prints = accepted li R (good-answer p good) (ap (λ (x : Verdict). verdictAnswer x .number) judged);
@@ -113,4 +113,4 @@ module _ (l : TaskList) (v : Verdict) (e : v ≡ verdictOf l 65536) (cycle jobs 
 
 -- What is printed lies within the lent bytes.
 pub answer-within : {input old new : List ℕ} {r : ℕ} → Answers input old new r → r ≤ length old → r ≤ length new
-answer-within {old = old} {new = new} A l = omega (arith, overwritten-length (λ i. getD (A .text) i 0) old (length (A .text)) new (A .written .bytes))
+answer-within {old = old} {new = new} answers l = omega (arith, overwritten-length (λ i. getD (answers .text) i 0) old (length (answers .text)) new (answers .written .bytes))

@@ -32,18 +32,18 @@ module _ (n : ℕ) (key fast slow rest : ℕ → ℕ) where
   pub ahead-after : (f s : ℕ) → IsFirst key fast n f → IsFirst key slow n s → ((j : ℕ) → j < n → rest j ≤ slow j)
       → Ahead n key fast slow rest → Ahead n key (after f fast) (after s slow) (after s rest)
   unfolding after
-  ahead-after f s lf ls rs A = record {
-    work = λ ρ. omega (arith, work-falls n key fast f lf ρ, work-falls n key slow s ls ρ, A .work ρ);
+  ahead-after f s lf ls rs so-far = record {
+    work = λ ρ. omega (arith, work-falls n key fast f lf ρ, work-falls n key slow s ls ρ, so-far .work ρ);
     level = level;
     ended = λ j l z.
         ⊎-elim
         (λ (g : (s ≡ suc j) × (gets s j ≡ 1)). omega (arith, level j l, none-before n key slow s ls j (rank n key j) (g .0) (omega arith), work-falls n key slow s ls (rank n key j)))
-        (λ (g : (s ≡ suc j → ⊥) × (gets s j ≡ 0)). omega (arith, A .ended j l (omega arith)))
+        (λ (g : (s ≡ suc j → ⊥) × (gets s j ≡ 0)). omega (arith, so-far .ended j l (omega arith)))
         (gets-cases s j);
   }
     where
       level : (j : ℕ) → j < n → before n key (rank n key j) (after f fast) + (fast j - gets f j) ≤ before n key (rank n key j) (after s slow) + (rest j - gets s j)
-      level j l = omega (arith, level-falls n key fast f lf j (fast j) l (omega arith), level-falls n key slow s ls j (rest j) l (rs j l), A .level j l)
+      level j l = omega (arith, level-falls n key fast f lf j (fast j) l (omega arith), level-falls n key slow s ls j (rest j) l (rs j l), so-far .level j l)
 
 -- ---- from one slice to the next
 -- The job of task i goes on, in both runs;
@@ -91,20 +91,20 @@ module _ (n : ℕ) (key fast slow rest key′ fast′ slow′ rest′ : ℕ → 
 
   -- A turn of jobs keeps it ahead.
   pub ahead-turned : Ahead n key fast slow rest → Ahead n key′ fast′ slow′ rest′
-  ahead-turned A = record {
+  ahead-turned so-far = record {
     work = work;
     level = λ j l.
         ⊎-elim
         (λ (s : Stays key fast slow rest key′ fast′ slow′ rest′ j).
-        rw (same-rank j (s .key-same)) (omega (arith, gain (rank n key j), A .level j l)))
+        rw (same-rank j (s .key-same)) (omega (arith, gain (rank n key j), so-far .level j l)))
         (λ (t : Turns fast slow fast′ slow′ rest′ j). omega (arith, work (rank n key′ j)))
         (turn j l);
     ended = λ j l z.
         ⊎-elim
-        (λ (s : Stays key fast slow rest key′ fast′ slow′ rest′ j). omega (arith, A .ended j l (omega arith)))
+        (λ (s : Stays key fast slow rest key′ fast′ slow′ rest′ j). omega (arith, so-far .ended j l (omega arith)))
         (λ (t : Turns fast slow fast′ slow′ rest′ j). omega arith)
         (turn j l);
   }
     where
       work : (ρ : ℕ) → before n key′ ρ fast′ ≤ before n key′ ρ slow′
-      work ρ = omega (arith, gain ρ, A .work ρ)
+      work ρ = omega (arith, gain ρ, so-far .work ρ)

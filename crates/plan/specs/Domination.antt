@@ -56,7 +56,7 @@ module _ (P : Plan) (S : Sound P) (b w a : Demand)
 
   slice : (t : ℕ) → AheadAt t → AheadAfter t
   unfolding AheadAt AheadAfter
-  slice t A = ahead-after (P .count) (keyIn P t) (lacks P b b t) (lacks P a a t) (lacks P w a t) (entry P b t) (entry P a t) (entry-law P b t) (entry-law P a t) (lacks-less t) A
+  slice t so-far = ahead-after (P .count) (keyIn P t) (lacks P b b t) (lacks P a a t) (lacks P w a t) (entry P b t) (entry P a t) (entry-law P b t) (entry-law P a t) (lacks-less t) so-far
 
   stays : (t i : ℕ) → i < P .count → suc (age P i t) < P .due i
       → Stays (keyIn P t) (after (entry P b t) (lacks P b b t)) (after (entry P a t) (lacks P a a t)) (after (entry P a t) (lacks P w a t))
@@ -72,8 +72,8 @@ module _ (P : Plan) (S : Sound P) (b w a : Demand)
   turns : (t : ℕ) → OnTimeUpTo P a (suc t) → AheadAfter t → (i : ℕ) → i < P .count → P .due i ≤ suc (age P i t)
       → Turns (after (entry P b t) (lacks P b b t)) (after (entry P a t) (lacks P a a t)) (lacks P b b (suc t)) (lacks P a a (suc t)) (lacks P w a (suc t)) i
   unfolding after AheadAfter
-  turns t on A i li l = record {
-    fast-ended = A .ended i li (lacks-none P S w a i li t l (λ e. omega (arith, wa i (job P i t) li, by-deadline e)));
+  turns t on so-far i li l = record {
+    fast-ended = so-far .ended i li (lacks-none P S w a i li t l (λ e. omega (arith, wa i (job P i t) li, by-deadline e)));
     slow-ended = lacks-none P S a a i li t l by-deadline;
     fast-less =
         ⊎-elim
@@ -88,12 +88,12 @@ module _ (P : Plan) (S : Sound P) (b w a : Demand)
 
   turn : (t : ℕ) → OnTimeUpTo P a (suc t) → AheadAfter t → AheadAt (suc t)
   unfolding AheadAt AheadAfter
-  turn t on A =
+  turn t on so-far =
       ahead-turned (P .count)
       (keyIn P t) (after (entry P b t) (lacks P b b t)) (after (entry P a t) (lacks P a a t)) (after (entry P a t) (lacks P w a t))
       (keyIn P (suc t)) (lacks P b b (suc t)) (lacks P a a (suc t)) (lacks P w a (suc t))
-      (λ i li. ⊎-elim (λ (l : P .due i ≤ suc (age P i t)). inr (turns t on A i li l)) (λ (l : suc (age P i t) < P .due i). inl (stays t i li l)) (le-or-lt (P .due i) (suc (age P i t))))
-      A
+      (λ i li. ⊎-elim (λ (l : P .due i ≤ suc (age P i t)). inr (turns t on so-far i li l)) (λ (l : suc (age P i t) < P .due i). inl (stays t i li l)) (le-or-lt (P .due i) (suc (age P i t))))
+      so-far
 
   -- The run under b is ahead before every slice up to which the run under a is on time.
   ahead-at : (t : ℕ) → OnTimeUpTo P a t → AheadAt t
@@ -116,10 +116,10 @@ module _ (P : Plan) (S : Sound P) (b w a : Demand)
       open-at = omega (arith, age-at P S i li k m m-in)
 
       ended-in : AheadAfter (release P i k + m) → b i k ≤ given P b i (release P i k) (suc m)
-      ended-in A =
+      ended-in so-far =
           omega (
             arith,
-            A .ended i li (omega (arith, lacks-open P w a (release P i k + m) i open-at, ap (w i) (job-at P S i li k m m-in), given-at P S a i li k m m-in)),
+            so-far .ended i li (omega (arith, lacks-open P w a (release P i k + m) i open-at, ap (w i) (job-at P S i li k m m-in), given-at P S a i li k m m-in)),
             lacks-open P b b (release P i k + m) i open-at,
             ap (b i) (job-at P S i li k m m-in),
             given-at P S b i li k m m-in,

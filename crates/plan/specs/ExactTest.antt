@@ -261,9 +261,9 @@ module _ (P : Plan) (monotonic : Monotonic P) where
 
   -- Its first job misses its deadline: what it had received by then is less than its run-time.
   pub first-failing-late : (i : ℕ) → FirstFailing P i → given P (P .runtime) i 0 (P .due i) < P .runtime i 0
-  first-failing-late i F =
+  first-failing-late i first =
       ⊎-elim
-      (λ (h : P .runtime i 0 ≤ given P (P .runtime) i 0 (P .due i)). absurd (F .fails (first-on-time-passes P monotonic i (F .below) (F .before-pass) (first-on-time i .1 h))))
+      (λ (h : P .runtime i 0 ≤ given P (P .runtime) i 0 (P .due i)). absurd (first .fails (first-on-time-passes P monotonic i (first .below) (first .before-pass) (first-on-time i .1 h))))
       (λ (l : given P (P .runtime) i 0 (P .due i) < P .runtime i 0). l)
       (le-or-lt (P .runtime i 0) (given P (P .runtime) i 0 (P .due i)))
 
@@ -271,11 +271,11 @@ module _ (P : Plan) (monotonic : Monotonic P) where
   pub first-failing-earliest : (i j k : ℕ) → FirstFailing P i → j < P .count → (OnTime P (P .runtime) j k → ⊥)
       → (P .due i ≤ deadline P j k) × (ranksBefore (keyIn P 0) j i ≡ false)
   unfolding deadline keyIn AllBeforePass
-  first-failing-earliest i j k F lj late =
+  first-failing-earliest i j k first lj late =
       ⊎-elim
-      (λ (b : ranksBefore (keyIn P 0) j i ≡ true). absurd (late (passes-on-time P monotonic j lj (F .before-pass j lj b) k)))
+      (λ (b : ranksBefore (keyIn P 0) j i ≡ true). absurd (late (passes-on-time P monotonic j lj (first .before-pass j lj b) k)))
       (λ (b : ranksBefore (keyIn P 0) j i ≡ false).
-      (omega (arith, not-before-key (keyIn P 0) j i b, monotonic .by-deadline i (job P i 0) (F .below), monotonic .by-deadline j (job P j 0) lj), b))
+      (omega (arith, not-before-key (keyIn P 0) j i b, monotonic .by-deadline i (job P i 0) (first .below), monotonic .by-deadline j (job P j 0) lj), b))
       (bool-cases (ranksBefore (keyIn P 0) j i))
 
   -- what the first job of task i lacks at its deadline

@@ -48,21 +48,21 @@ pub record Accepted (l : TaskList) (supply : ℕ) (asked : Asked) (clock : ℕ) 
 pub start-accepted : (l : TaskList) (supply : ℕ) (asked : Asked) (clock : ℕ) (log log′ : List ℕ) (r : Started)
     → Begins l supply asked clock log log′ r → begunAnswer (r .answer) .number ≡ 0 → Accepted l supply asked clock log log′ r
 unfolding begunOf begunState begunLog begunAnswer
-start-accepted l supply asked clock log log′ r B z =
+start-accepted l supply asked clock log log′ r begins z =
     ⊎-elim
     (λ (h : ByBounds l supply (verdictOf l supply)). never (h .is) (λ n. let T = broken-tells l supply (h .number) (h .task) (h .broken) in T .some (sym (T .number-is) ∙ n)))
     (⊎-elim
     (λ (h : ForLateness l supply (verdictOf l supply)). never (h .is) (λ n. omega arith))
     (λ (h : OnTimeAll l supply (verdictOf l supply)).
-    let answer = B .answer ∙ ap (λ (v : Verdict). begunOf v (length log)) (h .is) in
+    let answer = begins .answer ∙ ap (λ (v : Verdict). begunOf v (length log)) (h .is) in
     ⊎-elim
     (λ (le : jobsOf l ≤ length log).
     record {
       keeps = h .keeps;
       on-time = h .on-time;
       room = le;
-      state-is = B .state ∙ ap (λ (v : Verdict). begunState l asked clock v (length log)) (h .is) ∙ choose-no _ _ _ (le-ltb (length log) (jobsOf l) le);
-      log-is = B .bytes ∙ ap (λ (v : Verdict). begunLog v log) (h .is) ∙ choose-no _ _ _ (le-ltb (length log) (jobsOf l) le);
+      state-is = begins .state ∙ ap (λ (v : Verdict). begunState l asked clock v (length log)) (h .is) ∙ choose-no _ _ _ (le-ltb (length log) (jobsOf l) le);
+      log-is = begins .bytes ∙ ap (λ (v : Verdict). begunLog v log) (h .is) ∙ choose-no _ _ _ (le-ltb (length log) (jobsOf l) le);
     })
     (λ (lt : length log < jobsOf l). absurd (omega (arith, ap (λ (x : Begun). begunAnswer x .number) (answer ∙ choose-yes _ _ _ (lt-ltb (length log) (jobsOf l) lt)))))
     (le-or-lt (jobsOf l) (length log))))
@@ -70,7 +70,7 @@ start-accepted l supply asked clock log log′ r B z =
   where
     -- a refused list is refused by the start
     never : {A : Type 0} {number task : ℕ} {margin : ℤ} → verdictOf l supply ≡ verdict.Refused number task margin → (number ≡ 0 → ⊥) → A
-    never e some = absurd (some (sym (ap (λ (x : Begun). begunAnswer x .number) (B .answer ∙ ap (λ (v : Verdict). begunOf v (length log)) e)) ∙ z))
+    never e some = absurd (some (sym (ap (λ (x : Begun). begunAnswer x .number) (begins .answer ∙ ap (λ (v : Verdict). begunOf v (length log)) e)) ∙ z))
 
 -- ---- the jobs of a list
 -- Run-times are from one slice up, so that every job takes one at least.
@@ -96,15 +96,15 @@ module _ (l : TaskList) (supply : ℕ) (K : KeepsBounds l supply) (m : Mode) (cl
   told : (f : Task → ℕ) (i : ℕ) → i < l .count → at (overwrite (λ i. f (taskAt (l .tasks) i)) (l .count) (replicate 16 0)) i ≡ f (taskAt (l .tasks) i)
   told f i li = overwrite-at (λ i. f (taskAt (l .tasks) i)) (replicate 16 0) 0 (l .count) i li (omega (arith, K .few))
 
-  start-period : (i : ℕ) → i < l .count → periodOf s i ≡ planOf l .period i
+  pub start-period : (i : ℕ) → i < l .count → periodOf s i ≡ planOf l .period i
   unfolding periodOf planOf startState
   start-period = told (λ (t : Task). t .period)
 
-  start-runtime : (i k : ℕ) → i < l .count → runtimeOf s i k ≡ planOf l .runtime i k
+  pub start-runtime : (i k : ℕ) → i < l .count → runtimeOf s i k ≡ planOf l .runtime i k
   unfolding runtimeOf planOf startState
   start-runtime i k = told (λ (t : Task). t .runtime) i
 
-  start-job : (i : ℕ) → jobOf s i ≡ fresh
+  pub start-job : (i : ℕ) → jobOf s i ≡ fresh
   unfolding startState jobOf fresh
   start-job i = ap₂ (λ u e. record { used = u; ended = e }) (all-alike 0 i) (all-alike false i)
 
@@ -195,6 +195,6 @@ module _ (l : TaskList) (supply : ℕ) (K : KeepsBounds l supply) (m : Mode) (cl
 pub accepted-starts : (l : TaskList) (supply : ℕ) (asked : Asked) (clock : ℕ) (log log′ : List ℕ) (r : Started)
     → Begins l supply asked clock log log′ r → verdictAnswer (verdictOf l supply) .number ≡ 0 → jobsOf l ≤ length log → begunAnswer (r .answer) .number ≡ 0
 unfolding begunOf begunAnswer none refusal
-accepted-starts l supply asked clock log log′ r B z room =
+accepted-starts l supply asked clock log log′ r begins z room =
     ap (λ (x : Begun). begunAnswer x .number)
-    (B .answer ∙ ap (λ (v : Verdict). begunOf v (length log)) (accepted-as l supply z .is) ∙ choose-no _ _ _ (le-ltb (length log) (jobsOf l) room))
+    (begins .answer ∙ ap (λ (v : Verdict). begunOf v (length log)) (accepted-as l supply z .is) ∙ choose-no _ _ _ (le-ltb (length log) (jobsOf l) room))

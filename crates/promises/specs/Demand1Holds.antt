@@ -16,7 +16,7 @@ use Rattle.plan.specs.Plan.{IsFirst}
 use Rattle.plan.specs.Rank.{first-law, not-before-key, not-before-place}
 use Rattle.tasks.specs.declared.Task.{Task}
 use Rattle.tasks.specs.declared.TaskList.{TaskList}
-use Rattle.tasks.specs.List.{taskAt}
+use Rattle.tasks.specs.List.{taskAt, planOf}
 use Rattle.tasks.specs.Bounds.{jobsOf}
 use Rattle.verdict.specs.declared.Verdict.{Verdict}
 use Rattle.verdict.specs.declared.Verdict.the-variants.{Accepted, Refused}
@@ -46,7 +46,7 @@ use Rattle.readings.specs.declared.Entry.the-variants.{NoEntry}
 use Rattle.readings.specs.Reading.{entryOf}
 use Rattle.readings.specs.Laws.{reads-no-entry, idle-read, task-read, no-entry-read, entry-byte, refusal-number, logged-byte, reads-results, done-is-one}
 use Rattle.bench.specs.Drive.{taskIn}
-use Rattle.promises.specs.Begun.{all-alike, start-accepted}
+use Rattle.promises.specs.Begun.{all-alike, start-accepted, start-period, start-runtime, start-job}
 use Rattle.promises.specs.RefusalsHold.{bounds-go, list-goes, build-goes, start-goes, who-goes, step-goes, runtime-goes, period-goes}
 use Rattle.promises.specs.ProgramHolds.{program}
 use Rattle.promises.specs.Demand1.{NoRun, BegunRun, RunsByTable, RunsFilling, Due, Completes, ClosedSlice, Demand1}
@@ -54,8 +54,8 @@ use Rattle.promises.specs.Demand1.{NoRun, BegunRun, RunsByTable, RunsFil
 -- ---- table building
 pub build-refused : (l : TaskList) (supply : ℕ) (old new : List ℕ) (v : Verdict) → Built l supply old new v → (verdictAnswer v .number ≡ 0 → ⊥) → new ≡ old
 unfolding verdictAnswer tabled
-build-refused l supply old new (Accepted c j t m) B nz = absurd (nz refl)
-build-refused l supply old new (Refused n t m) B nz = B .bytes
+build-refused l supply old new (Accepted c j t m) built nz = absurd (nz refl)
+build-refused l supply old new (Refused n t m) built nz = built .bytes
 
 -- ---- a start
 no-run : NoRun noRun
@@ -72,7 +72,7 @@ no-run = record {
   not-sound = λ S. omega (arith, S .count-from);
 }
 
-module _ (l : TaskList) (supply : ℕ) (asked : Asked) (clock : ℕ) (log log′ : List ℕ) (r : Started) (B : Begins l supply asked clock log log′ r) where
+module _ (l : TaskList) (supply : ℕ) (asked : Asked) (clock : ℕ) (log log′ : List ℕ) (r : Started) (begins : Begins l supply asked clock log log′ r) where
   start-refused : (begunAnswer (r .answer) .number ≡ 0 → ⊥) → (log′ ≡ log) × NoRun (r .state)
   unfolding begunAnswer none refusal begunOf begunState begunLog
   start-refused nz = go (verdictOf l supply) refl
@@ -80,21 +80,21 @@ module _ (l : TaskList) (supply : ℕ) (asked : Asked) (clock : ℕ) (log log′
       -- what holds of the verdict holds of answer, state and log
       kept : (v : Verdict) → verdictOf l supply ≡ v → begunLog v log ≡ log → begunState l asked clock v (length log) ≡ noRun → (log′ ≡ log) × NoRun (r .state)
       kept v q el es =
-          (B .bytes ∙ ap (λ (x : Verdict). begunLog x log) q ∙ el, subst NoRun (sym (B .state ∙ ap (λ (x : Verdict). begunState l asked clock x (length log)) q ∙ es)) no-run)
+          (begins .bytes ∙ ap (λ (x : Verdict). begunLog x log) q ∙ el, subst NoRun (sym (begins .state ∙ ap (λ (x : Verdict). begunState l asked clock x (length log)) q ∙ es)) no-run)
 
       go : (v : Verdict) → verdictOf l supply ≡ v → (log′ ≡ log) × NoRun (r .state)
       go (Refused n t m) q = kept _ q refl refl
       go (Accepted c j t m) q =
           ⊎-elim
           (λ (e : ltb (length log) j ≡ true). kept _ q (choose-yes _ _ _ e) (choose-yes _ _ _ e))
-          (λ (e : ltb (length log) j ≡ false). absurd (nz (ap (λ (x : Begun). begunAnswer x .number) (B .answer ∙ ap (λ (x : Verdict). begunOf x (length log)) q ∙ choose-no _ _ _ e))))
+          (λ (e : ltb (length log) j ≡ false). absurd (nz (ap (λ (x : Begun). begunAnswer x .number) (begins .answer ∙ ap (λ (x : Verdict). begunOf x (length log)) q ∙ choose-no _ _ _ e))))
           (bool-cases (ltb (length log) j))
 
   start-begun : begunAnswer (r .answer) .number ≡ 0 → BegunRun l asked clock log log′ (r .state)
-  unfolding startState periodOf runtimeOf jobOf fresh modeOf
+  unfolding startState planOf periodOf runtimeOf modeOf
   start-begun z =
-      let A = start-accepted l supply asked clock log log′ r B z in
-      rw (A .state-is, A .log-is)
+      let accepted = start-accepted l supply asked clock log log′ r begins z in
+      rw (accepted .state-is, accepted .log-is)
       (record {
         count-is = refl;
         cycle-is = refl;
@@ -103,19 +103,16 @@ module _ (l : TaskList) (supply : ℕ) (asked : Asked) (clock : ℕ) (log log′
         filling-asked = λ e. ap modeOf e;
         table-asked = λ e. ap modeOf e;
         none-named = λ e. ap modeOf e;
-        periods-are = λ i li. told (λ (t : Task). t .period) i li (A .keeps .few);
-        runtimes-are = λ i k li. told (λ (t : Task). t .runtime) i li (A .keeps .few);
+        periods-are = start-period l supply (accepted .keeps) (modeOf asked) clock;
+        runtimes-are = start-runtime l supply (accepted .keeps) (modeOf asked) clock;
         beyond-0 = λ i k li. (zeros (λ (t : Task). t .period) i li, zeros (λ (t : Task). t .runtime) i li);
-        jobs-fresh = λ i. ap₂ (λ u e. record { used = u; ended = e }) (all-alike 0 i) (all-alike false i);
-        log-cleared = λ x lx. overwrite-at (λ _. 0) log 0 (jobsOf l) x lx (omega (arith, A .room));
+        jobs-fresh = start-job l supply (accepted .keeps) (modeOf asked) clock;
+        log-cleared = λ x lx. overwrite-at (λ _. 0) log 0 (jobsOf l) x lx (omega (arith, accepted .room));
         log-beyond = λ x lx. overwrite-kept (λ _. 0) log 0 (jobsOf l) x lx;
         log-length = overwrite-length (λ _. 0) log (jobsOf l);
       })
     where
-      -- what stands at a task's place, and beyond the tasks
-      told : (f : Task → ℕ) (i : ℕ) → i < l .count → l .count ≤ 16 → at (overwrite (λ i. f (taskAt (l .tasks) i)) (l .count) (replicate 16 0)) i ≡ f (taskAt (l .tasks) i)
-      told f i li few = overwrite-at (λ i. f (taskAt (l .tasks) i)) (replicate 16 0) 0 (l .count) i li (omega arith)
-
+      -- what stands beyond the tasks
       zeros : (f : Task → ℕ) (i : ℕ) → l .count ≤ i → at (overwrite (λ i. f (taskAt (l .tasks) i)) (l .count) (replicate 16 0)) i ≡ 0
       zeros f i li = overwrite-kept (λ i. f (taskAt (l .tasks) i)) (replicate 16 0) 0 (l .count) i li ∙ all-alike 0 i
 
@@ -182,11 +179,15 @@ no-entry-above byte count few = (λ l. reads-no-entry byte count (omega arith) (
 
 -- ---- a step
 module _ (s : State) (i : ℕ) where
+  -- the job's end is its release and a period
+  at-end : (b : Bool) → ((b ≡ true) ↔ (suc (s .position) ≡ currentOf s i * periodOf s i + periodOf s i)) → (b ≡ true) ↔ Due s i
+  at-end b told = let e = suc-mul (currentOf s i) (periodOf s i) in (λ t. told .0 t ∙ sym e, λ d. told .1 (d ∙ e))
+
   due-tells : (deadlineNext s i ≡ true) ↔ Due s i
-  due-tells = (λ t. deadline-next-tells s i .0 t ∙ sym (suc-mul (currentOf s i) (periodOf s i)), λ d. deadline-next-tells s i .1 (d ∙ suc-mul (currentOf s i) (periodOf s i)))
+  due-tells = at-end _ (deadline-next-tells s i)
 
   release-tells : (releaseNext s i ≡ true) ↔ Due s i
-  release-tells = (λ t. release-next-tells s i .0 t ∙ sym (suc-mul (currentOf s i) (periodOf s i)), λ d. release-next-tells s i .1 (d ∙ suc-mul (currentOf s i) (periodOf s i)))
+  release-tells = at-end _ (release-next-tells s i)
 
   not-yet : (b : Bool) → ((b ≡ true) ↔ Due s i) → (Due s i → ⊥) → b ≡ false
   not-yet b told never = ⊎-elim (λ t. absurd (never (told .0 t))) (λ f. f) (bool-cases b)
@@ -247,9 +248,9 @@ module _ (s : State) (table : List ℕ) (clock report : ℕ) (log log′ : List 
 
   step-closed : closedAnswer (r .answer) .number ≡ 0 → Room s → ClosedSlice s table clock report log log′ (r .state)
   step-closed z R =
-      let A = step-accepted s table clock report log .0 (sym step-said ∙ z) in
-      let h = step-answers s table clock report log log′ r A S in
-      rw (h .1, h .2) (closed-slice s table clock report log A R)
+      let accepted = step-accepted s table clock report log .0 (sym step-said ∙ z) in
+      let h = step-answers s table clock report log log′ r accepted S in
+      rw (h .1, h .2) (closed-slice s table clock report log accepted R)
 
 -- ---- conversions
 period-exact : (n slice : ℕ) → 0 < slice → slicesOf (periodSlices (n * slice) slice) ≡ n

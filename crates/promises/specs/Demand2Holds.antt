@@ -23,7 +23,7 @@ use Rattle.tasks.specs.declared.TaskList.{TaskList}
 use Rattle.tasks.specs.declared.Bounds.the-variants.{Kept, Broken}
 use Rattle.tasks.specs.List.{planOf}
 use Rattle.tasks.specs.Bounds.{cycleOf, jobsOf}
-use Rattle.tasks.specs.Kept.{KeepsBounds, broken-tells, bounds-kept, plan-sound, plan-monotonic, period-within-cycle, period-divides-cycle}
+use Rattle.tasks.specs.Kept.{KeepsBounds, bounds-kept, plan-sound, plan-monotonic, period-within-cycle, period-divides-cycle}
 use Rattle.verdict.specs.declared.Verdict.{Verdict}
 use Rattle.verdict.specs.declared.Verdict.the-variants.{Accepted, Refused}
 use Rattle.verdict.specs.Lateness.{received, missing, missedAt}
@@ -184,9 +184,9 @@ module _ (P : Plan) (monotonic : Monotonic P) (n i short : ℕ) (E : EarliestMis
 -- Nobody else fails first.
 pub fails-first-alone : (P : Plan) (i j : ℕ) → FirstFailing P i → FirstFailing P j → i ≡ j
 unfolding AllBeforePass
-fails-first-alone P i j F G =
-    let a : ranksBefore (keyIn P 0) i j ≡ false = ⊎-elim (λ t. absurd (F .fails (G .before-pass i (F .below) t))) (λ f. f) (bool-cases (ranksBefore (keyIn P 0) i j)) in
-    let b : ranksBefore (keyIn P 0) j i ≡ false = ⊎-elim (λ t. absurd (G .fails (F .before-pass j (G .below) t))) (λ f. f) (bool-cases (ranksBefore (keyIn P 0) j i)) in
+fails-first-alone P i j first-i first-j =
+    let a : ranksBefore (keyIn P 0) i j ≡ false = ⊎-elim (λ t. absurd (first-i .fails (first-j .before-pass i (first-i .below) t))) (λ f. f) (bool-cases (ranksBefore (keyIn P 0) i j)) in
+    let b : ranksBefore (keyIn P 0) j i ≡ false = ⊎-elim (λ t. absurd (first-j .fails (first-i .before-pass j (first-j .below) t))) (λ f. f) (bool-cases (ranksBefore (keyIn P 0) j i)) in
     let same : keyIn P 0 i ≡ keyIn P 0 j = omega (arith, not-before-key (keyIn P 0) i j a, not-before-key (keyIn P 0) j i b) in
     omega (arith, not-before-place (keyIn P 0) i j a same, not-before-place (keyIn P 0) j i b (sym same))
 
@@ -244,21 +244,21 @@ module _ (l : TaskList) (supply : ℕ) (K : KeepsBounds l supply) where
 -- Building is accepted only if the list is.
 pub list-accepted : (l : TaskList) (supply : ℕ) (old new : List ℕ) (v : Verdict) → Built l supply old new v → verdictAnswer v .number ≡ 0 → verdictAnswer (verdictOf l supply) .number ≡ 0
 unfolding verdictAnswer fitted
-list-accepted l supply old new v B z = go (verdictOf l supply) refl
+list-accepted l supply old new v built z = go (verdictOf l supply) refl
   where
     go : (w : Verdict) → verdictOf l supply ≡ w → verdictAnswer (verdictOf l supply) .number ≡ 0
     go (Accepted c j t m) q = ap (λ (x : Verdict). verdictAnswer x .number) q
-    go (Refused n t m) q = ap (λ (x : Verdict). verdictAnswer x .number) q ∙ sym (ap (λ (x : Verdict). verdictAnswer x .number) (B .answer ∙ ap (λ (x : Verdict). fitted x (length old)) q)) ∙ z
+    go (Refused n t m) q = ap (λ (x : Verdict). verdictAnswer x .number) q ∙ sym (ap (λ (x : Verdict). verdictAnswer x .number) (built .answer ∙ ap (λ (x : Verdict). fitted x (length old)) q)) ∙ z
 
-module _ (l : TaskList) (supply : ℕ) (K : KeepsBounds l supply) (old new : List ℕ) (v : Verdict) (B : Built l supply old new v) where
+module _ (l : TaskList) (supply : ℕ) (K : KeepsBounds l supply) (old new : List ℕ) (v : Verdict) (built : Built l supply old new v) where
   built-as : verdictAnswer v .number ≡ 0 → (cycleOf l ≤ length old) × (new ≡ overwrite (table (planOf l)) (cycleOf l) old)
   unfolding verdictAnswer fitted tabled
   built-as z =
-      let e = accepted-as l supply (list-accepted l supply old new v B z) .is in
-      let answer = B .answer ∙ ap (λ (x : Verdict). fitted x (length old)) e in
+      let e = accepted-as l supply (list-accepted l supply old new v built z) .is in
+      let answer = built .answer ∙ ap (λ (x : Verdict). fitted x (length old)) e in
       ⊎-elim
       (λ (r : cycleOf l ≤ length old).
-      (r, B .bytes ∙ ap (λ (x : Verdict). tabled l x old) (answer ∙ choose-no _ _ _ (le-ltb (length old) (cycleOf l) r))))
+      (r, built .bytes ∙ ap (λ (x : Verdict). tabled l x old) (answer ∙ choose-no _ _ _ (le-ltb (length old) (cycleOf l) r))))
       (λ (r : length old < cycleOf l).
       absurd (omega (arith, ap (λ (x : Verdict). verdictAnswer x .number) (answer ∙ choose-yes _ _ _ (lt-ltb (length old) (cycleOf l) r)))))
       (le-or-lt (cycleOf l) (length old))
@@ -279,7 +279,7 @@ module _ (l : TaskList) (supply : ℕ) (K : KeepsBounds l supply) (old new : Lis
   unfolding planOf
   fills z i li =
       let T = table-is z in
-      let on = accepted-on-time l supply K .0 (list-accepted l supply old new v B z) in
+      let on = accepted-on-time l supply K .0 (list-accepted l supply old new v built z) in
       sum-ext (λ t. gets (getD new t 0) i) (λ t. gets (table (planOf l) t) i) (cycleOf l) (λ t lt. ap (λ (e : ℕ). gets e i) (T .entries t lt))
       ∙ entries-in-cycle (planOf l) (plan-sound l supply K) i (cycleOf l) li (period-divides-cycle l supply K i li) on
       ∙ sum-same (planOf l .runtime i 0) (cycleOf l / planOf l .period i)

@@ -67,35 +67,35 @@ unfoldable pub endIn : TaskList → (ℕ → List ℕ) → ℕ → ℕ → ℕ
 endIn l logs i k = least (isLogged l logs i k) (cycleOf l)
 
 -- It ends with slice p, in which that very job ran.
-pub record EndsWith (l : TaskList) (F : FullRun l) (i k p : ℕ) : Type 0 where
+pub record EndsWith (l : TaskList) (run : FullRun l) (i k p : ℕ) : Type 0 where
   pub within : p < cycleOf l
-  pub end-is : endIn l (F .logs) i k ≡ suc p
-  pub ran : running (F .states p) (F .tab) ≡ suc i
-  pub that-job : currentOf (F .states p) i ≡ k
+  pub end-is : endIn l (run .logs) i k ≡ suc p
+  pub ran : running (run .states p) (run .tab) ≡ suc i
+  pub that-job : currentOf (run .states p) i ≡ k
 
 -- Run G needs no more than run F, whichever jobs the needs belong to.
 abbrev pub NeedsNoMore : (l : TaskList) → FullRun l → FullRun l → Type 0
-NeedsNoMore l F G = (i k : ℕ) → i < l .count → G .need i k ≤ F .need i k
+NeedsNoMore l run other = (i k : ℕ) → i < l .count → other .need i k ≤ run .need i k
 
 -- No job of run G ends later than in run F.
 abbrev pub EndsNoLater : (l : TaskList) → FullRun l → FullRun l → Type 0
-EndsNoLater l F G = (i k : ℕ) → i < l .count → k < jobsIn l i → endIn l (G .logs) i k ≤ endIn l (F .logs) i k
+EndsNoLater l run other = (i k : ℕ) → i < l .count → k < jobsIn l i → endIn l (other .logs) i k ≤ endIn l (run .logs) i k
 
 pub record Demand3 : Type 0 where
   -- No step of a full run is refused.
-  pub no-step-refused : (l : TaskList) (F : FullRun l) (p : ℕ) → p < cycleOf l → closedAnswer (F .answers p .answer) .number ≡ 0
+  pub no-step-refused : (l : TaskList) (run : FullRun l) (p : ℕ) → p < cycleOf l → closedAnswer (run .answers p .answer) .number ≡ 0
   -- Each job that needs no more than it declared is logged done (1), each other one over (2): none late (3), none without a
   -- result (0).
-  pub logged : (l : TaskList) (F : FullRun l) (i k : ℕ) → i < l .count → k < jobsIn l i
-      → getD (F .logs (cycleOf l)) (placeOf l i k) 0 ≡ choose (leb (F .need i k) (planOf l .runtime i k)) 1 2
+  pub logged : (l : TaskList) (run : FullRun l) (i k : ℕ) → i < l .count → k < jobsIn l i
+      → getD (run .logs (cycleOf l)) (placeOf l i k) 0 ≡ choose (leb (run .need i k) (planOf l .runtime i k)) 1 2
   -- Bytes beyond the jobs stay.
-  pub beyond-kept : (l : TaskList) (F : FullRun l) (x : ℕ) → jobsOf l ≤ x → getD (F .logs (cycleOf l)) x 0 ≡ getD (F .log) x 0
-  pub length-kept : (l : TaskList) (F : FullRun l) → length (F .logs (cycleOf l)) ≡ length (F .log)
+  pub beyond-kept : (l : TaskList) (run : FullRun l) (x : ℕ) → jobsOf l ≤ x → getD (run .logs (cycleOf l)) x 0 ≡ getD (run .log) x 0
+  pub length-kept : (l : TaskList) (run : FullRun l) → length (run .logs (cycleOf l)) ≡ length (run .log)
   -- Each job ends within the cycle, with a slice in which it ran.
-  pub ends-in-own-slice : (l : TaskList) (F : FullRun l) (i k : ℕ) → i < l .count → k < jobsIn l i → (p : ℕ) × EndsWith l F i k p
+  pub ends-in-own-slice : (l : TaskList) (run : FullRun l) (i k : ℕ) → i < l .count → k < jobsIn l i → (p : ℕ) × EndsWith l run i k p
   -- No slice ends more than one job.
-  pub one-end-a-slice : (l : TaskList) (F : FullRun l) (i k j m p : ℕ) → EndsWith l F i k p → EndsWith l F j m p → (i ≡ j) × (k ≡ m)
+  pub one-end-a-slice : (l : TaskList) (run : FullRun l) (i k j m p : ℕ) → EndsWith l run i k p → EndsWith l run j m p → (i ≡ j) × (k ≡ m)
   -- Filling freed slices ends no job later than the run by the table with the same needs, or with higher ones.
-  pub filling-no-later : (l : TaskList) (F G : FullRun l) → modeOf (F .asked) ≡ Table → modeOf (G .asked) ≡ Filling → NeedsNoMore l F G → EndsNoLater l F G
+  pub filling-no-later : (l : TaskList) (run other : FullRun l) → modeOf (run .asked) ≡ Table → modeOf (other .asked) ≡ Filling → NeedsNoMore l run other → EndsNoLater l run other
   -- No job of a filling run ends later when needs are lowered, whichever jobs they belong to.
-  pub lower-no-later : (l : TaskList) (F G : FullRun l) → modeOf (F .asked) ≡ Filling → modeOf (G .asked) ≡ Filling → NeedsNoMore l F G → EndsNoLater l F G
+  pub lower-no-later : (l : TaskList) (run other : FullRun l) → modeOf (run .asked) ≡ Filling → modeOf (other .asked) ≡ Filling → NeedsNoMore l run other → EndsNoLater l run other

@@ -35,58 +35,58 @@ use Rattle.promises.specs.Driven.{demandOf, runs-filling, runs-by-table,
 use Rattle.promises.specs.Begun.{Accepted, start-accepted, takes-some, offset-listed, start-reached}
 
 -- ---- every slice of a full run
-module _ (l : TaskList) (F : FullRun l) where
-  begun-as : Accepted l (F .supply) (F .asked) (F .clock) (F .log) (F .logs 0) (F .begun)
-  begun-as = start-accepted l (F .supply) (F .asked) (F .clock) (F .log) (F .logs 0) (F .begun) (F .begins) (F .accepted)
+module _ (l : TaskList) (run : FullRun l) where
+  begun-as : Accepted l (run .supply) (run .asked) (run .clock) (run .log) (run .logs 0) (run .begun)
+  begun-as = start-accepted l (run .supply) (run .asked) (run .clock) (run .log) (run .logs 0) (run .begun) (run .begins) (run .accepted)
 
   S : Sound (planOf l)
-  S = plan-sound l (F .supply) (begun-as .keeps)
+  S = plan-sound l (run .supply) (begun-as .keeps)
 
-  some : (i k : ℕ) → i < l .count → k < cycleOf l / planOf l .period i → 1 ≤ takes (planOf l) (F .need) i k
-  some = takes-some l (F .supply) (begun-as .keeps) (F .need) (F .needs-from)
+  some : (i k : ℕ) → i < l .count → k < cycleOf l / planOf l .period i → 1 ≤ takes (planOf l) (run .need) i k
+  some = takes-some l (run .supply) (begun-as .keeps) (run .need) (run .needs-from)
 
   abbrev d : Demand
-  d = demandOf (modeOf (F .asked)) (planOf l) (F .need)
+  d = demandOf (modeOf (run .asked)) (planOf l) (run .need)
 
   abbrev Held : ℕ → State → List ℕ → Type 0
-  Held = Reached (planOf l) (cycleOf l) (F .need) d (modeOf (F .asked)) (F .log)
+  Held = Reached (planOf l) (cycleOf l) (run .need) d (modeOf (run .asked)) (run .log)
 
-  goes-on : (p : ℕ) → p < cycleOf l → Held p (F .states p) (F .logs p) → (F .answers p .answer ≡ Closed.Accepted) × Held (suc p) (F .answers p .state) (F .logs (suc p))
+  goes-on : (p : ℕ) → p < cycleOf l → Held p (run .states p) (run .logs p) → (run .answers p .answer ≡ Closed.Accepted) × Held (suc p) (run .answers p .state) (run .logs (suc p))
   unfolding planOf
   goes-on p lp R =
-      leads-on (planOf l) S (cycleOf l) (F .need) (begun-as .on-time) (F .tab) (F .own) (F .log) p lp (F .states p) (F .logs p) some (modeOf (F .asked)) R (F .logs (suc p)) (F .answers p) (F .steps .stepped p lp)
+      leads-on (planOf l) S (cycleOf l) (run .need) (begun-as .on-time) (run .tab) (run .own) (run .log) p lp (run .states p) (run .logs p) some (modeOf (run .asked)) R (run .logs (suc p)) (run .answers p) (run .steps .stepped p lp)
 
-  pub reached : (p : ℕ) → p ≤ cycleOf l → Held p (F .states p) (F .logs p)
+  pub reached : (p : ℕ) → p ≤ cycleOf l → Held p (run .states p) (run .logs p)
   reached zero lp =
-      rw (F .from-start ∙ begun-as .state-is, begun-as .log-is)
-      (start-reached l (F .supply) (begun-as .keeps) (modeOf (F .asked)) (F .clock) (F .log) (begun-as .room) (F .need) d (F .needs-from))
-  reached (suc p) lp = rw (F .steps .handed p lp) (goes-on p lp (reached p (omega arith)) .1)
+      rw (run .from-start ∙ begun-as .state-is, begun-as .log-is)
+      (start-reached l (run .supply) (begun-as .keeps) (modeOf (run .asked)) (run .clock) (run .log) (begun-as .room) (run .need) d (run .needs-from))
+  reached (suc p) lp = rw (run .steps .handed p lp) (goes-on p lp (reached p (omega arith)) .1)
 
   -- No step of it is refused.
-  pub no-step-refused : (p : ℕ) → p < cycleOf l → closedAnswer (F .answers p .answer) .number ≡ 0
+  pub no-step-refused : (p : ℕ) → p < cycleOf l → closedAnswer (run .answers p .answer) .number ≡ 0
   unfolding closedAnswer none refusal
   no-step-refused p lp = ap (λ (x : Closed). closedAnswer x .number) (goes-on p lp (reached p (omega arith)) .0)
 
   on-time-run : OnTimeUpTo (planOf l) d (cycleOf l)
-  on-time-run = run-on-time (planOf l) S (cycleOf l) (F .need) (begun-as .on-time) (modeOf (F .asked))
+  on-time-run = run-on-time (planOf l) S (cycleOf l) (run .need) (begun-as .on-time) (modeOf (run .asked))
 
   -- The one who runs in slice p is the plan's: filling, and by the table.
-  pub runs-as-filling : modeOf (F .asked) ≡ Filling → (p : ℕ) → p < cycleOf l → running (F .states p) (F .tab) ≡ filling (planOf l) (F .need) p
+  pub runs-as-filling : modeOf (run .asked) ≡ Filling → (p : ℕ) → p < cycleOf l → running (run .states p) (run .tab) ≡ filling (planOf l) (run .need) p
   unfolding demandOf
   runs-as-filling e p lp =
-      runs-filling (planOf l) S (cycleOf l) (F .need) (F .log) p lp (F .states p) (F .logs p)
-      (on-time-before (planOf l) (takes (planOf l) (F .need)) p (cycleOf l) (omega arith) (rw e at on-time-run)) (rw e at (reached p (omega arith))) (F .tab)
+      runs-filling (planOf l) S (cycleOf l) (run .need) (run .log) p lp (run .states p) (run .logs p)
+      (on-time-before (planOf l) (takes (planOf l) (run .need)) p (cycleOf l) (omega arith) (rw e at on-time-run)) (rw e at (reached p (omega arith))) (run .tab)
 
-  pub runs-as-by-table : modeOf (F .asked) ≡ Table → (p : ℕ) → p < cycleOf l → running (F .states p) (F .tab) ≡ byTable (planOf l) (F .need) p
+  pub runs-as-by-table : modeOf (run .asked) ≡ Table → (p : ℕ) → p < cycleOf l → running (run .states p) (run .tab) ≡ byTable (planOf l) (run .need) p
   unfolding demandOf
-  runs-as-by-table e p lp = runs-by-table (planOf l) S (cycleOf l) (F .need) (F .log) p lp (F .states p) (F .logs p) (F .tab) (F .own) (rw e at (reached p (omega arith)))
+  runs-as-by-table e p lp = runs-by-table (planOf l) S (cycleOf l) (run .need) (run .log) p lp (run .states p) (run .logs p) (run .tab) (run .own) (rw e at (reached p (omega arith)))
 
   -- ---- the log after the run
-  pub beyond-kept : (x : ℕ) → jobsOf l ≤ x → getD (F .logs (cycleOf l)) x 0 ≡ getD (F .log) x 0
+  pub beyond-kept : (x : ℕ) → jobsOf l ≤ x → getD (run .logs (cycleOf l)) x 0 ≡ getD (run .log) x 0
   unfolding jobsOf jobCount planOf
   beyond-kept x lx =
       let R = reached (cycleOf l) (omega arith) in
-      R .beyond x (omega (arith, ap (offset (F .states (cycleOf l))) (R .carries .count-is), offset-listed l (F .states (cycleOf l)) (R .carries) (l .count) (omega arith)))
+      R .beyond x (omega (arith, ap (offset (run .states (cycleOf l))) (R .carries .count-is), offset-listed l (run .states (cycleOf l)) (R .carries) (l .count) (omega arith)))
 
   -- Every task has a job in the cycle.
   pub has-job : (i : ℕ) → i < l .count → 0 < jobsIn l i
@@ -94,7 +94,7 @@ module _ (l : TaskList) (F : FullRun l) where
   has-job i li =
       let T = planOf l .period i in
       ⊎-elim
-      (λ (z : cycleOf l / T ≡ 0). absurd (omega (arith, ap (λ (x : ℕ). x * T) z, div-mul-cancel T (period-divides-cycle l (F .supply) (begun-as .keeps) i li), cycle-pos l (F .supply) (begun-as .keeps))))
+      (λ (z : cycleOf l / T ≡ 0). absurd (omega (arith, ap (λ (x : ℕ). x * T) z, div-mul-cancel T (period-divides-cycle l (run .supply) (begun-as .keeps) i li), cycle-pos l (run .supply) (begun-as .keeps))))
       (λ (nz : cycleOf l / T ≡ 0 → ⊥). omega arith)
       (eq-or-ne (cycleOf l / T) 0)
 
@@ -104,74 +104,74 @@ module _ (l : TaskList) (F : FullRun l) where
   -- ---- one job
   -- what it takes, and what it has had by position p
   abbrev enough : ℕ → ℕ → ℕ
-  enough i k = takes (planOf l) (F .need) i k
+  enough i k = takes (planOf l) (run .need) i k
 
   abbrev hadBy : ℕ → ℕ → ℕ → ℕ
   hadBy i k p = hadUpTo (planOf l) d i k p
 
   module _ (i k : ℕ) (li : i < l .count) (lk : k < jobsIn l i) where
     -- its byte stands where the list puts it
-    byte-at : (p : ℕ) → p ≤ cycleOf l → getD (F .logs p) (placeOf l i k) 0 ≡ byteUpTo (planOf l) (F .need) d i k p
+    byte-at : (p : ℕ) → p ≤ cycleOf l → getD (run .logs p) (placeOf l i k) 0 ≡ byteUpTo (planOf l) (run .need) d i k p
     unfolding placeOf planOf
-    byte-at p lp = ap (λ (x : ℕ). getD (F .logs p) (x + k) 0) (sym (offset-listed l (F .states p) (reached p lp .carries) i (omega arith))) ∙ reached p lp .bytes-are i k li lk
+    byte-at p lp = ap (λ (x : ℕ). getD (run .logs p) (x + k) 0) (sym (offset-listed l (run .states p) (reached p lp .carries) i (omega arith))) ∙ reached p lp .bytes-are i k li lk
 
     has-ended : enough i k ≤ hadBy i k (cycleOf l)
     unfolding planOf OnTimeUpTo OnTime HadBy
     has-ended =
         let due : deadline (planOf l) i k ≤ cycleOf l = deadline-within (planOf l) S i k (cycleOf l) li lk in
-        omega (arith, settled (planOf l) S d i li k (cycleOf l) due, on-time-run i k li due, run-enough (planOf l) (F .need) (modeOf (F .asked)) i k)
+        omega (arith, settled (planOf l) S d i li k (cycleOf l) due, on-time-run i k li due, run-enough (planOf l) (run .need) (modeOf (run .asked)) i k)
 
     -- Its byte is 1 where the need is at most the run-time, and 2 elsewhere: not 3, not 0.
-    pub logged : getD (F .logs (cycleOf l)) (placeOf l i k) 0 ≡ choose (leb (F .need i k) (planOf l .runtime i k)) 1 2
+    pub logged : getD (run .logs (cycleOf l)) (placeOf l i k) 0 ≡ choose (leb (run .need i k) (planOf l .runtime i k)) 1 2
     unfolding resultByte
-    logged = byte-at (cycleOf l) (omega arith) ∙ byte-result (planOf l) (F .need) d i k (cycleOf l) has-ended
+    logged = byte-at (cycleOf l) (omega arith) ∙ byte-result (planOf l) (run .need) d i k (cycleOf l) has-ended
 
     -- It is logged by position p exactly if it has had what it takes by then.
-    logged-has : (p : ℕ) → p ≤ cycleOf l → isLogged l (F .logs) i k p ≡ true → enough i k ≤ hadBy i k p
+    logged-has : (p : ℕ) → p ≤ cycleOf l → isLogged l (run .logs) i k p ≡ true → enough i k ≤ hadBy i k p
     unfolding isLogged
     logged-has p lp t =
         ⊎-elim
         (λ (h : enough i k ≤ hadBy i k p). h)
-        (λ (h : hadBy i k p < enough i k). absurd (true≢false (sym t ∙ ap not (eq-eqb _ 0 (byte-at p lp ∙ byte-none (planOf l) (F .need) d i k p h)))))
+        (λ (h : hadBy i k p < enough i k). absurd (true≢false (sym t ∙ ap not (eq-eqb _ 0 (byte-at p lp ∙ byte-none (planOf l) (run .need) d i k p h)))))
         (le-or-lt (enough i k) (hadBy i k p))
 
-    has-logged : (p : ℕ) → p ≤ cycleOf l → enough i k ≤ hadBy i k p → isLogged l (F .logs) i k p ≡ true
+    has-logged : (p : ℕ) → p ≤ cycleOf l → enough i k ≤ hadBy i k p → isLogged l (run .logs) i k p ≡ true
     unfolding isLogged
     has-logged p lp h =
-        ap not (ne-eqb _ 0 (λ z. result-some (planOf l) (F .need) i k (sym (byte-at p lp ∙ byte-result (planOf l) (F .need) d i k p h) ∙ z)))
+        ap not (ne-eqb _ 0 (λ z. result-some (planOf l) (run .need) i k (sym (byte-at p lp ∙ byte-result (planOf l) (run .need) d i k p h) ∙ z)))
 
     -- ---- its end
-    pub end-within : endIn l (F .logs) i k ≤ cycleOf l
+    pub end-within : endIn l (run .logs) i k ≤ cycleOf l
     unfolding endIn
-    end-within = least-law (isLogged l (F .logs) i k) (cycleOf l) .within
+    end-within = least-law (isLogged l (run .logs) i k) (cycleOf l) .within
 
     -- It is logged at its end,
-    logged-at-end : isLogged l (F .logs) i k (endIn l (F .logs) i k) ≡ true
+    logged-at-end : isLogged l (run .logs) i k (endIn l (run .logs) i k) ≡ true
     unfolding endIn
     logged-at-end =
-        let law = least-law (isLogged l (F .logs) i k) (cycleOf l) in
+        let law = least-law (isLogged l (run .logs) i k) (cycleOf l) in
         ⊎-elim
-        (λ (e : endIn l (F .logs) i k ≡ cycleOf l). ap (isLogged l (F .logs) i k) e ∙ has-logged (cycleOf l) (omega arith) has-ended)
-        (λ (ne : endIn l (F .logs) i k ≡ cycleOf l → ⊥). law .passes (omega (arith, law .within)))
-        (eq-or-ne (endIn l (F .logs) i k) (cycleOf l))
+        (λ (e : endIn l (run .logs) i k ≡ cycleOf l). ap (isLogged l (run .logs) i k) e ∙ has-logged (cycleOf l) (omega arith) has-ended)
+        (λ (ne : endIn l (run .logs) i k ≡ cycleOf l → ⊥). law .passes (omega (arith, law .within)))
+        (eq-or-ne (endIn l (run .logs) i k) (cycleOf l))
 
     -- and not before;
-    open-before-end : (p : ℕ) → p < endIn l (F .logs) i k → hadBy i k p < enough i k
+    open-before-end : (p : ℕ) → p < endIn l (run .logs) i k → hadBy i k p < enough i k
     unfolding endIn
     open-before-end p lp =
         ⊎-elim
         (λ (h : enough i k ≤ hadBy i k p).
-        absurd (true≢false (sym (has-logged p (omega (arith, end-within)) h) ∙ least-law (isLogged l (F .logs) i k) (cycleOf l) .none-before p lp)))
+        absurd (true≢false (sym (has-logged p (omega (arith, end-within)) h) ∙ least-law (isLogged l (run .logs) i k) (cycleOf l) .none-before p lp)))
         (λ (h : hadBy i k p < enough i k). h)
         (le-or-lt (enough i k) (hadBy i k p))
 
     -- so its byte is 0 until then and no longer;
-    pub some-at-end : getD (F .logs (endIn l (F .logs) i k)) (placeOf l i k) 0 ≡ 0 → ⊥
+    pub some-at-end : getD (run .logs (endIn l (run .logs) i k)) (placeOf l i k) 0 ≡ 0 → ⊥
     unfolding isLogged
     some-at-end z = true≢false (sym logged-at-end ∙ ap not (eq-eqb _ 0 z))
 
-    pub none-before-end : (p : ℕ) → p < endIn l (F .logs) i k → getD (F .logs p) (placeOf l i k) 0 ≡ 0
-    none-before-end p lp = byte-at p (omega (arith, end-within)) ∙ byte-none (planOf l) (F .need) d i k p (open-before-end p lp)
+    pub none-before-end : (p : ℕ) → p < endIn l (run .logs) i k → getD (run .logs p) (placeOf l i k) 0 ≡ 0
+    none-before-end p lp = byte-at p (omega (arith, end-within)) ∙ byte-none (planOf l) (run .need) d i k p (open-before-end p lp)
 
     -- the slice that brings it what it takes is one in which it runs:
     module _ (p : ℕ) (lp : p < cycleOf l) (short : hadBy i k p < enough i k) (full : enough i k ≤ hadBy i k (suc p)) where
@@ -186,23 +186,23 @@ module _ (l : TaskList) (F : FullRun l) where
           (λ (ne : k ≡ job (planOf l) i p → ⊥). absurd (omega (arith, short, full, others-stay (planOf l) S d i li k p ne)))
           (eq-or-ne k (job (planOf l) i p))
 
-      ran-in : running (F .states p) (F .tab) ≡ suc i
+      ran-in : running (run .states p) (run .tab) ≡ suc i
       unfolding planOf takes
       ran-in =
           let R = reached p (omega arith) in
           let had-now = on-time-had (planOf l) S d i li p (on-time-before (planOf l) d p (cycleOf l) (omega arith) on-time-run) in
-          let still : hadUpTo (planOf l) d i (job (planOf l) i p) p < takes (planOf l) (F .need) i (job (planOf l) i p) = rw current at short in
-          runs-as (planOf l) S (cycleOf l) (F .need) (begun-as .on-time) (F .tab) (F .own) (F .log) p lp (F .states p) (F .logs p) (modeOf (F .asked)) R
-          ∙ unless-open (F .states p) (entry (planOf l) d p) i own-entry (R .jobs-are lp i li .ended-is ∙ lt-leb (takes (planOf l) (F .need) i (job (planOf l) i p)) (had (planOf l) d p i) (omega (arith, still, had-now)))
+          let still : hadUpTo (planOf l) d i (job (planOf l) i p) p < takes (planOf l) (run .need) i (job (planOf l) i p) = rw current at short in
+          runs-as (planOf l) S (cycleOf l) (run .need) (begun-as .on-time) (run .tab) (run .own) (run .log) p lp (run .states p) (run .logs p) (modeOf (run .asked)) R
+          ∙ unless-open (run .states p) (entry (planOf l) d p) i own-entry (R .jobs-are lp i li .ended-is ∙ lt-leb (takes (planOf l) (run .need) i (job (planOf l) i p)) (had (planOf l) d p i) (omega (arith, still, had-now)))
 
-    pub ends-in-own-slice : (p : ℕ) × EndsWith l F i k p
+    pub ends-in-own-slice : (p : ℕ) × EndsWith l run i k p
     unfolding planOf
-    ends-in-own-slice = go (endIn l (F .logs) i k) refl
+    ends-in-own-slice = go (endIn l (run .logs) i k) refl
       where
-        had-at-end : enough i k ≤ hadBy i k (endIn l (F .logs) i k)
-        had-at-end = logged-has (endIn l (F .logs) i k) end-within logged-at-end
+        had-at-end : enough i k ≤ hadBy i k (endIn l (run .logs) i k)
+        had-at-end = logged-has (endIn l (run .logs) i k) end-within logged-at-end
 
-        go : (e : ℕ) → endIn l (F .logs) i k ≡ e → (p : ℕ) × EndsWith l F i k p
+        go : (e : ℕ) → endIn l (run .logs) i k ≡ e → (p : ℕ) × EndsWith l run i k p
         go zero e = absurd (omega (arith, had-at-end, ap (hadBy i k) e, nothing-before-release (planOf l) S d i li k 0 (omega arith), some i k li lk))
         go (suc p) e =
             let in-cycle : p < cycleOf l = omega (arith, end-within) in
@@ -212,32 +212,32 @@ module _ (l : TaskList) (F : FullRun l) where
             (p, record { within = in-cycle; end-is = e; ran = ran-in p in-cycle short full; that-job = current-is (R .carries) (R .position-is) i li ∙ sym (current p in-cycle short full) })
 
     -- which changes the log.
-    pub logging-shows : (p : ℕ) → EndsWith l F i k p → F .logs (suc p) ≡ F .logs p → ⊥
+    pub logging-shows : (p : ℕ) → EndsWith l run i k p → run .logs (suc p) ≡ run .logs p → ⊥
     logging-shows p E same =
-        some-at-end (ap (λ (q : ℕ). getD (F .logs q) (placeOf l i k) 0) (E .end-is) ∙ ap (λ (g : List ℕ). getD g (placeOf l i k) 0) same ∙ none-before-end p (omega (arith, E .end-is)))
+        some-at-end (ap (λ (q : ℕ). getD (run .logs q) (placeOf l i k) 0) (E .end-is) ∙ ap (λ (g : List ℕ). getD g (placeOf l i k) 0) same ∙ none-before-end p (omega (arith, E .end-is)))
 
   -- No slice ends more than one job.
-  pub one-end-a-slice : (i k j m p : ℕ) → EndsWith l F i k p → EndsWith l F j m p → (i ≡ j) × (k ≡ m)
-  one-end-a-slice i k j m p E G =
-      let same : i ≡ j = omega (arith, E .ran, G .ran) in
-      (same, sym (E .that-job) ∙ ap (currentOf (F .states p)) same ∙ G .that-job)
+  pub one-end-a-slice : (i k j m p : ℕ) → EndsWith l run i k p → EndsWith l run j m p → (i ≡ j) × (k ≡ m)
+  one-end-a-slice i k j m p E other =
+      let same : i ≡ j = omega (arith, E .ran, other .ran) in
+      (same, sym (E .that-job) ∙ ap (currentOf (run .states p)) same ∙ other .that-job)
 
 -- ---- two full runs of one list
 -- what passes sooner has a smaller least
 sooner : (f g : ℕ → Bool) (n : ℕ) → ((p : ℕ) → p ≤ n → f p ≡ true → g p ≡ true) → least g n ≤ least f n
 sooner f g n h =
-    let F = least-law f n in
-    let G = least-law g n in
+    let least-f = least-law f n in
+    let least-g = least-law g n in
     ⊎-elim
     (λ (l : least g n ≤ least f n). l)
-    (λ (l : least f n < least g n). absurd (true≢false (sym (h (least f n) (F .within) (F .passes (omega (arith, G .within)))) ∙ G .none-before (least f n) l)))
+    (λ (l : least f n < least g n). absurd (true≢false (sym (h (least f n) (least-f .within) (least-f .passes (omega (arith, least-g .within)))) ∙ least-g .none-before (least f n) l)))
     (le-or-lt (least g n) (least f n))
 
-module _ (l : TaskList) (F G : FullRun l) where
+module _ (l : TaskList) (run other : FullRun l) where
   -- where what has ended in one has ended in the other, no job of the other ends later
-  no-later : ((i k p : ℕ) → i < l .count → k < jobsIn l i → enough l F i k ≤ hadBy l F i k p → enough l G i k ≤ hadBy l G i k p) → EndsNoLater l F G
+  no-later : ((i k p : ℕ) → i < l .count → k < jobsIn l i → enough l run i k ≤ hadBy l run i k p → enough l other i k ≤ hadBy l other i k p) → EndsNoLater l run other
   unfolding endIn
-  no-later h i k li lk = sooner _ _ (cycleOf l) (λ p lp t. has-logged l G i k li lk p lp (h i k p li lk (logged-has l F i k li lk p lp t)))
+  no-later h i k li lk = sooner _ _ (cycleOf l) (λ p lp t. has-logged l other i k li lk p lp (h i k p li lk (logged-has l run i k li lk p lp t)))
 
   within-due : (i k p : ℕ) → elapsed (planOf l) i k p ≤ planOf l .due i
   unfolding elapsed
@@ -245,26 +245,26 @@ module _ (l : TaskList) (F G : FullRun l) where
 
   within-window : (i k p : ℕ) → i < l .count → k < jobsIn l i → release (planOf l) i k + elapsed (planOf l) i k p ≤ cycleOf l
   unfolding deadline planOf
-  within-window i k p li lk = omega (arith, within-due i k p, deadline-within (planOf l) (S l F) i k (cycleOf l) li lk)
+  within-window i k p li lk = omega (arith, within-due i k p, deadline-within (planOf l) (S l run) i k (cycleOf l) li lk)
 
-  module _ (less : NeedsNoMore l F G) where
+  module _ (less : NeedsNoMore l run other) where
     -- lowered needs delay no job of a filling run,
     lower : (i k p : ℕ) → i < l .count → k < jobsIn l i
-        → takes (planOf l) (F .need) i k ≤ hadUpTo (planOf l) (takes (planOf l) (F .need)) i k p → takes (planOf l) (G .need) i k ≤ hadUpTo (planOf l) (takes (planOf l) (G .need)) i k p
+        → takes (planOf l) (run .need) i k ≤ hadUpTo (planOf l) (takes (planOf l) (run .need)) i k p → takes (planOf l) (other .need) i k ≤ hadUpTo (planOf l) (takes (planOf l) (other .need)) i k p
     unfolding hadUpTo HadBy planOf
-    lower i k p li lk = lower-needs-delay-none (planOf l) (S l F) (cycleOf l) (begun-as l F .on-time) (F .need) (G .need) less i k (elapsed (planOf l) i k p) li (within-due i k p) (within-window i k p li lk)
+    lower i k p li lk = lower-needs-delay-none (planOf l) (S l run) (cycleOf l) (begun-as l run .on-time) (run .need) (other .need) less i k (elapsed (planOf l) i k p) li (within-due i k p) (within-window i k p li lk)
 
     -- nor does filling
     fills : (i k p : ℕ) → i < l .count → k < jobsIn l i
-        → takes (planOf l) (F .need) i k ≤ hadUpTo (planOf l) (planOf l .runtime) i k p → takes (planOf l) (F .need) i k ≤ hadUpTo (planOf l) (takes (planOf l) (F .need)) i k p
+        → takes (planOf l) (run .need) i k ≤ hadUpTo (planOf l) (planOf l .runtime) i k p → takes (planOf l) (run .need) i k ≤ hadUpTo (planOf l) (takes (planOf l) (run .need)) i k p
     unfolding hadUpTo HadBy planOf
-    fills i k p li lk = filling-ends-no-later (planOf l) (S l F) (cycleOf l) (begun-as l F .on-time) (F .need) i k (elapsed (planOf l) i k p) li (within-due i k p) (within-window i k p li lk)
+    fills i k p li lk = filling-ends-no-later (planOf l) (S l run) (cycleOf l) (begun-as l run .on-time) (run .need) i k (elapsed (planOf l) i k p) li (within-due i k p) (within-window i k p li lk)
 
-    filling-no-later : modeOf (F .asked) ≡ Table → modeOf (G .asked) ≡ Filling → EndsNoLater l F G
+    filling-no-later : modeOf (run .asked) ≡ Table → modeOf (other .asked) ≡ Filling → EndsNoLater l run other
     unfolding demandOf
     filling-no-later e f = no-later (λ i k p li lk h. rw f (lower i k p li lk (fills i k p li lk (rw e at h))))
 
-    lower-no-later : modeOf (F .asked) ≡ Filling → modeOf (G .asked) ≡ Filling → EndsNoLater l F G
+    lower-no-later : modeOf (run .asked) ≡ Filling → modeOf (other .asked) ≡ Filling → EndsNoLater l run other
     unfolding demandOf
     lower-no-later e f = no-later (λ i k p li lk h. rw f (lower i k p li lk (rw e at h)))
 
@@ -273,9 +273,9 @@ demand-3 = record {
   no-step-refused = no-step-refused;
   logged = logged;
   beyond-kept = beyond-kept;
-  length-kept = λ l F. reached l F (cycleOf l) (omega arith) .long;
+  length-kept = λ l run. reached l run (cycleOf l) (omega arith) .long;
   ends-in-own-slice = ends-in-own-slice;
   one-end-a-slice = one-end-a-slice;
-  filling-no-later = λ l F G e f less. filling-no-later l F G less e f;
-  lower-no-later = λ l F G e f less. lower-no-later l F G less e f;
+  filling-no-later = λ l run other e f less. filling-no-later l run other less e f;
+  lower-no-later = λ l run other e f less. lower-no-later l run other less e f;
 }

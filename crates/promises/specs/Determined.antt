@@ -61,14 +61,14 @@ judge l supply r r′ e e′ = one-answer e e′
 
 -- verdict: build, with the table; lent: build_list
 pub build : (l : TaskList) (supply : ℕ) (old new new′ : List ℕ) (r r′ : Verdict) → Built l supply old new r → Built l supply old new′ r′ → (r ≡ r′) × (new ≡ new′)
-build l supply old new new′ r r′ B B′ =
-    (one-answer (B .answer) (B′ .answer), B .bytes ∙ ap (λ (v : Verdict). tabled l v old) (one-answer (B .answer) (B′ .answer)) ∙ sym (B′ .bytes))
+build l supply old new new′ r r′ one other =
+    (one-answer (one .answer) (other .answer), one .bytes ∙ ap (λ (v : Verdict). tabled l v old) (one-answer (one .answer) (other .answer)) ∙ sym (other .bytes))
 
 -- start: start, with the log; lent: start_list
 pub start : (l : TaskList) (supply : ℕ) (asked : Asked) (clock : ℕ) (log new new′ : List ℕ) (r r′ : Started)
     → Begins l supply asked clock log new r → Begins l supply asked clock log new′ r′ → (r ≡ r′) × (new ≡ new′)
-start l supply asked clock log new new′ r r′ B B′ =
-    (ap₂ (λ (a : Begun) (s : State). record { answer = a; state = s }) (one-answer (B .answer) (B′ .answer)) (one-answer (B .state) (B′ .state)), one-answer (B .bytes) (B′ .bytes))
+start l supply asked clock log new new′ r r′ one other =
+    (ap₂ (λ (a : Begun) (s : State). record { answer = a; state = s }) (one-answer (one .answer) (other .answer)) (one-answer (one .state) (other .state)), one-answer (one .bytes) (other .bytes))
 
 -- lent: judge_lent, build_lent, start_lent, of the list that the records make
 pub judge-lent : (ts : List Task) (supply : ℕ) (r r′ : Verdict) → r ≡ verdictOf (listOf ts) supply → r′ ≡ verdictOf (listOf ts) supply → r ≡ r′

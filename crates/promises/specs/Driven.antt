@@ -172,6 +172,6 @@ module _ (P : Plan) (S : Sound P) (cycle : ℕ) (need : Demand) (on : OnTimeUpTo
   pub leads-on : ((i k : ℕ) → i < P .count → k < cycle / P .period i → 1 ≤ takes P need i k) → (m : Mode) → Reached P cycle need (demandOf m P need) m start p s g
       → (g′ : List ℕ) (r : Next) → Stepped s tab (nextClock (s .clock)) (reportIn tab need s) g g′ r → (r .answer ≡ Accepted) × Reached P cycle need (demandOf m P need) m start (suc p) (r .state) g′
   leads-on some m R g′ r T =
-      let A = drive-accepted P cycle need (demandOf m P need) m start p lp s g R tab own in
-      let a = step-answers s tab (nextClock (s .clock)) (reportIn tab need s) g g′ r A T in
-      (a .0, rw (a .1, a .2) (reached-next P S cycle need (demandOf m P need) some (λ i k li. run-enough P need m i k) (run-on-time P S cycle need on m) m start p lp s g R tab (runs-as m R) A))
+      let accepted = drive-accepted P cycle need (demandOf m P need) m start p lp s g R tab own in
+      let a = step-answers s tab (nextClock (s .clock)) (reportIn tab need s) g g′ r accepted T in
+      (a .0, rw (a .1, a .2) (reached-next P S cycle need (demandOf m P need) some (λ i k li. run-enough P need m i k) (run-on-time P S cycle need on m) m start p lp s g R tab (runs-as m R) accepted))

@@ -49,9 +49,9 @@ module _ (l : TaskList) (C : Calls l) where
   made n =
       ⊎-elim
       (λ (z : said n ≡ 0).
-      let A = step-accepted (s n) (C .tables n) (C .clocks n) (C .reports n) (g n) .0 (sym (step-said (s n) (C .tables n) (C .clocks n) (C .reports n) (g n) (g (suc n)) (C .answers n) (C .stepped n)) ∙ z) in
-      let a = step-answers (s n) (C .tables n) (C .clocks n) (C .reports n) (g n) (g (suc n)) (C .answers n) A (C .stepped n) in
-      moved A (a .0) (C .handed n ∙ a .1) (a .2))
+      let accepted = step-accepted (s n) (C .tables n) (C .clocks n) (C .reports n) (g n) .0 (sym (step-said (s n) (C .tables n) (C .clocks n) (C .reports n) (g n) (g (suc n)) (C .answers n) (C .stepped n)) ∙ z) in
+      let a = step-answers (s n) (C .tables n) (C .clocks n) (C .reports n) (g n) (g (suc n)) (C .answers n) accepted (C .stepped n) in
+      moved accepted (a .0) (C .handed n ∙ a .1) (a .2))
       (λ (nz : said n ≡ 0 → ⊥).
       let a = step-refused (s n) (C .tables n) (C .clocks n) (C .reports n) (g n) (g (suc n)) (C .answers n) (C .stepped n) nz in
       same (C .handed n ∙ a .0) (a .1))
@@ -66,7 +66,7 @@ module _ (l : TaskList) (C : Calls l) where
 
   honest-next : (n : ℕ) → Honest (planOf l) (cycleOf l) (s n) (g n) → Made n → Honest (planOf l) (cycleOf l) (s (suc n)) (g (suc n))
   honest-next n H (same es eg) = rw (es, eg) H
-  honest-next n H (moved A a es eg) = rw (es, eg) (honest-after (planOf l) S (cycleOf l) (s n) (C .tables n) (C .clocks n) (C .reports n) (g n) A H)
+  honest-next n H (moved accepted a es eg) = rw (es, eg) (honest-after (planOf l) S (cycleOf l) (s n) (C .tables n) (C .clocks n) (C .reports n) (g n) accepted H)
 
   honest : (n : ℕ) → Honest (planOf l) (cycleOf l) (s n) (g n)
   honest zero = rw (C .from-start ∙ begun-as .state-is, begun-as .log-is) (start-honest l (C .supply) (begun-as .keeps) (modeOf (C .asked)) (C .clock) (C .log) (begun-as .room))
@@ -89,7 +89,7 @@ module _ (l : TaskList) (C : Calls l) where
     stays-by : (n : ℕ) → (byte n ≡ 0 → ⊥) → Made n → byte (suc n) ≡ byte n
     unfolding planOf
     stays-by n nz (same es eg) = rw (es, eg)
-    stays-by n nz (moved A a es eg) = rw (es, eg) (written-stays (planOf l) S (cycleOf l) (s n) (C .tables n) (C .clocks n) (C .reports n) (g n) A (honest n) i k li lk nz)
+    stays-by n nz (moved accepted a es eg) = rw (es, eg) (written-stays (planOf l) S (cycleOf l) (s n) (C .tables n) (C .clocks n) (C .reports n) (g n) accepted (honest n) i k li lk nz)
 
     written-once : (n : ℕ) → (byteIn l C n i k ≡ 0 → ⊥) → byteIn l C (suc n) i k ≡ byteIn l C n i k
     written-once n some = sym (byte-at (suc n)) ∙ stays-by n (λ z. some (sym (byte-at n) ∙ z)) (made n) ∙ byte-at n
@@ -101,10 +101,10 @@ module _ (l : TaskList) (C : Calls l) where
     earned-by : (n : ℕ) → (byte n ≡ 1 → Earned l C n i k) → byte (suc n) ≡ 1 → Made n → Earned l C (suc n) i k
     unfolding closedAnswer none refusal planOf
     earned-by n so-far one (same es eg) = earlier-too n (so-far (sym (rw (es, eg)) ∙ one))
-    earned-by n so-far one (moved A a es eg) =
+    earned-by n so-far one (moved accepted a es eg) =
         ⊎-elim
         (λ (z : byte n ≡ 0).
-        let b = pass-brought (planOf l) S (cycleOf l) (s n) (C .tables n) (C .clocks n) (C .reports n) (g n) A (honest n) i k li lk z (sym (rw (es, eg)) ∙ one) in
+        let b = pass-brought (planOf l) S (cycleOf l) (s n) (C .tables n) (C .clocks n) (C .reports n) (g n) accepted (honest n) i k li lk z (sym (rw (es, eg)) ∙ one) in
         record { call = n; before = omega arith; went = ap (λ (x : Closed). closedAnswer x .number) a; ran-here = b .0; that-job = b .1; finished = b .2 })
         (λ (nz : byte n ≡ 0 → ⊥). earlier-too n (so-far (sym (stays-by n nz (made n)) ∙ one)))
         (eq-or-ne (byte n) 0)

@@ -37,8 +37,8 @@ fitted-whole (Refused number task margin) room le = refl
 
 -- What an accepted build leaves in the lent bytes is the list's own table.
 pub own-table : (l : TaskList) (supply : ℕ) (old new : List ℕ) (v : Verdict) → Built l supply old new v → verdictAnswer v .number ≡ 0 → Own (planOf l) (cycleOf l) new
-own-table l supply old new v B z =
-    let T = table-is l supply (accepted-as l supply (list-accepted l supply old new v B z) .keeps) old new v B z in
+own-table l supply old new v built z =
+    let T = table-is l supply (accepted-as l supply (list-accepted l supply old new v built z) .keeps) old new v built z in
     record { reaches = T .reaches; entries = T .entries }
 
 -- ---- full runs
@@ -81,14 +81,14 @@ same-slice : (tab : List ℕ) (need : Demand) (c : Course) (s : State) (g g′ :
 unfolding closed stateIn logIn refusalIn
 same-slice tab need c s g g′ r es eg S = (cc (S .state), cc (S .bytes))
 
-module _ (l : TaskList) (F : FullRun l) (ends : List ℕ) where
+module _ (l : TaskList) (run : FullRun l) (ends : List ℕ) where
   abbrev held : ℕ → Course
-  held = courseAt (F .tab) (F .need) (firstOf l (F .supply) (F .asked) (F .clock) (F .log) ends)
+  held = courseAt (run .tab) (run .need) (firstOf l (run .supply) (run .asked) (run .clock) (run .log) ends)
 
-  pub is-course : (p : ℕ) → p ≤ cycleOf l → (F .states p ≡ held p .state) × (F .logs p ≡ held p .log)
+  pub is-course : (p : ℕ) → p ≤ cycleOf l → (run .states p ≡ held p .state) × (run .logs p ≡ held p .log)
   unfolding courseAt firstOf
-  is-course zero lp = (F .from-start ∙ F .begins .state, F .begins .bytes)
+  is-course zero lp = (run .from-start ∙ run .begins .state, run .begins .bytes)
   is-course (suc p) lp =
       let so-far = is-course p (omega arith) in
-      let step = same-slice (F .tab) (F .need) (held p) (F .states p) (F .logs p) (F .logs (suc p)) (F .answers p) (so-far .0) (so-far .1) (F .steps .stepped p lp) in
-      (F .steps .handed p lp ∙ step .0, step .1)
+      let step = same-slice (run .tab) (run .need) (held p) (run .states p) (run .logs p) (run .logs (suc p)) (run .answers p) (so-far .0) (so-far .1) (run .steps .stepped p lp) in
+      (run .steps .handed p lp ∙ step .0, step .1)

@@ -2,6 +2,7 @@
 -- ProgramHolds has the proof.
 use mathlib.Core.Path.{_≡_}
 use mathlib.Core.List.{List, _∷_, _++_}
+use mathlib.Core.Logic.{_⊎_}
 use Prim.Native.Nat.{ℕ, _≤_, _<_}
 use lib.ListN.{length}
 use Rattle.basis.specs.Answer.{Answer}
@@ -46,6 +47,8 @@ pub record InForm (input : List ℕ) (l : TaskList) : Type 0 where
   pub list-is : l ≡ listOf tasks
 
 pub record Program : Type 0 where
+  -- An input is refused by its own rules, or it has a list.
+  pub every-input : (input : List ℕ) → ((a : Answer) × Refused (inputRules input) a) ⊎ ((l : TaskList) × InForm input l)
   -- An input that is too long, or else one with a line out of form, is refused so;
   pub input-refused : (input text : List ℕ) → Prints input text → (a : Answer) → Refused (inputRules input) a → text ≡ recordOf a
   -- the list of any other is refused as its verdict with a supply of 65,536;

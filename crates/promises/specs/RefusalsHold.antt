@@ -11,7 +11,7 @@ use lib.IntN.{subℕ}
 use lib.ListN.{length, getD}
 use borrow.Author.Tests.{lt-ltb, ltb-true, eq-eqb, ne-eqb, eqb-true, eqb-false}
 use Rattle.basis.specs.Choose.{choose, both-true, choose-yes, choose-no, choose-either, of-choice, bool-cases, le-or-lt, eq-or-ne, within, within-tells, is-within}
-use Rattle.basis.specs.Answer.{Answer, refusal, none, _orElse_, firstFound, none-number, else-choose, found-none, none-found}
+use Rattle.basis.specs.Answer.{Answer, alike, refusal, none, _orElse_, firstFound, none-number, else-choose, found-none, none-found}
 use Rattle.basis.specs.Rules.{rule, naming, Breaks, no-more, _then_, _andThen_, Refused, GoesBy, goes-on, goes-then, goes-as, breaks-naming, naming-told, goes-by-rule, goes-unless, first-goes}
 use Rattle.plan.specs.Plan.{given}
 use Rattle.plan.specs.ExactTest.{AllPass}
@@ -71,21 +71,21 @@ module _ (l : TaskList) where
 
   -- what breaks 3 or 4 does not fit
   period-unfit : (t : Task) → PeriodOutside l t → TaskFits t → ⊥
-  period-unfit t (inl z) F = omega (arith, F .period-from)
-  period-unfit t (inr h) F = omega (arith, F .period-to)
+  period-unfit t (inl z) fits = omega (arith, fits .period-from)
+  period-unfit t (inr h) fits = omega (arith, fits .period-to)
 
   runtime-unfit : (t : Task) → RuntimeOutside l t → TaskFits t → ⊥
-  runtime-unfit t h F = ⊎-elim (λ (z : t .runtime ≡ 0). omega (arith, F .runtime-from)) (λ (a : t .period < t .runtime). omega (arith, F .runtime-to)) (h .1)
+  runtime-unfit t h fits = ⊎-elim (λ (z : t .runtime ≡ 0). omega (arith, fits .runtime-from)) (λ (a : t .period < t .runtime). omega (arith, fits .runtime-to)) (h .1)
 
   -- so there is one first task alone
-  first-alone : (B C : Task → Type 0) → ((t : Task) → B t → TaskFits t → ⊥) → ((t : Task) → C t → TaskFits t → ⊥) → (i j : ℕ) → FirstWith l B i → FirstWith l C j → i ≡ j
-  first-alone B C b c i j F G =
+  first-alone : (Broken Other : Task → Type 0) → ((t : Task) → Broken t → TaskFits t → ⊥) → ((t : Task) → Other t → TaskFits t → ⊥) → (i j : ℕ) → FirstWith l Broken i → FirstWith l Other j → i ≡ j
+  first-alone Broken Other b c i j first-i first-j =
       ⊎-elim
       (λ e. e)
       (λ (ne : i ≡ j → ⊥).
       ⊎-elim
-      (λ (h : i ≤ j). absurd (b (task i) (F .broken) (G .before-fit i (omega arith))))
-      (λ (h : j < i). absurd (c (task j) (G .broken) (F .before-fit j h)))
+      (λ (h : i ≤ j). absurd (b (task i) (first-i .broken) (first-j .before-fit i (omega arith))))
+      (λ (h : j < i). absurd (c (task j) (first-j .broken) (first-i .before-fit j h)))
       (le-or-lt i j))
       (eq-or-ne i j)
 
@@ -116,8 +116,8 @@ module _ (l : TaskList) where
         (λ (t : not (within 1 (task i .period) (task i .runtime)) ≡ true).
         let h : RuntimeOutside l (task i) = (λ p. true≢false (sym (outside-tells 4096 (task i .period) .1 p) ∙ f), outside-tells (task i .period) (task i .runtime) .0 t) in
         inr (
-          λ b B.
-              let other = naming-told 2 _ b B in
+          λ b breaks.
+              let other = naming-told 2 _ b breaks in
               let same = first-alone (PeriodOutside l) (RuntimeOutside l) period-unfit runtime-unfit (other .0) i (other .1 .0) (first (RuntimeOutside l) h) in
               h .0 (subst (λ (x : ℕ). PeriodOutside l (task x)) same (other .1 .0 .broken)),
           inl (subst (Breaks (runtime-outside l)) (sym (four h)) (breaks-naming 3 _ i (first (RuntimeOutside l) h))),
@@ -126,8 +126,8 @@ module _ (l : TaskList) where
         (bool-cases (not (within 1 (task i .period) (task i .runtime)))))
         (bool-cases (not (within 1 4096 (task i .period))))
       where
-        first : (B : Task → Type 0) → B (task i) → FirstWith l B i
-        first B b = record { below = li; before-fit = fit-before i .0 before; broken = b }
+        first : (Broken : Task → Type 0) → Broken (task i) → FirstWith l Broken i
+        first Broken b = record { below = li; before-fit = fit-before i .0 before; broken = b }
 
         fits-none : not (within 1 4096 (task i .period)) ≡ false → not (within 1 (task i .period) (task i .runtime)) ≡ false → ofTask (l .tasks) i .number ≡ 0
         fits-none f g = ap (λ (a : Answer). a .number) (choose-no _ _ _ f ∙ choose-no _ _ _ g) ∙ none-number
@@ -138,16 +138,16 @@ module _ (l : TaskList) where
       first-goes _ (ofTask (l .tasks)) (l .count) refused-3-4
       (λ b R.
       ⊎-elim
-      (λ (B : Breaks (period-outside l) b).
-      let h = naming-told 2 _ b B in
-      let F = h .1 .0 in
-      (h .0, (F .below, fit-before (h .0) .1 (F .before-fit), three (h .0) (F .broken) ∙ h .1 .1)))
+      (λ (breaks : Breaks (period-outside l) b).
+      let h = naming-told 2 _ b breaks in
+      let first = h .1 .0 in
+      (h .0, (first .below, fit-before (h .0) .1 (first .before-fit), three (h .0) (first .broken) ∙ h .1 .1)))
       (λ rest.
       ⊎-elim
-      (λ (B : Breaks (runtime-outside l) b).
-      let h = naming-told 3 _ b B in
-      let F = h .1 .0 in
-      (h .0, (F .below, fit-before (h .0) .1 (F .before-fit), four (h .0) (F .broken) ∙ h .1 .1)))
+      (λ (breaks : Breaks (runtime-outside l) b).
+      let h = naming-told 3 _ b breaks in
+      let first = h .1 .0 in
+      (h .0, (first .below, fit-before (h .0) .1 (first .before-fit), four (h .0) (first .broken) ∙ h .1 .1)))
       (λ x. absurd (x .1))
       (rest .1))
       R)
@@ -166,10 +166,10 @@ module _ (l : TaskList) where
       (le-or-lt (q (suc i)) bound))
       (λ b R.
       ⊎-elim
-      (λ (B : Breaks (naming (suc m) (FirstAbove l q bound)) b).
-      let h = naming-told m _ b B in
-      let F = h .1 .0 in
-      (h .0, (F .below, none-found find (h .0) (λ j lj. one-test-none bound (q (suc j)) m (suc j) .1 (F .before-within j lj)), choose-yes _ _ _ (lt-ltb bound (q (suc (h .0))) (F .above)) ∙ h .1 .1)))
+      (λ (breaks : Breaks (naming (suc m) (FirstAbove l q bound)) b).
+      let h = naming-told m _ b breaks in
+      let first = h .1 .0 in
+      (h .0, (first .below, none-found find (h .0) (λ j lj. one-test-none bound (q (suc j)) m (suc j) .1 (first .before-within j lj)), choose-yes _ _ _ (lt-ltb bound (q (suc (h .0))) (first .above)) ∙ h .1 .1)))
       (λ x. absurd (x .1))
       R)
     where
@@ -192,9 +192,6 @@ module _ (l : TaskList) where
       (λ nz. rw (bounds-broken l supply nz) (found-most l supply .1))
 
 -- ---- refusals 7, 8 and 12
-alike : (a b : Answer) → a .number ≡ b .number → a .task ≡ b .task → a .margin ≡ b .margin → a .cycle ≡ b .cycle → a .jobs ≡ b .jobs → a ≡ b
-alike a b n t m c j = λ k. record { number = n k; task = t k; margin = m k; cycle = c k; jobs = j k }
-
 module _ (l : TaskList) (supply : ℕ) where
   abbrev judged : Answer
   judged = verdictAnswer (verdictOf l supply)
@@ -223,14 +220,14 @@ module _ (l : TaskList) (supply : ℕ) where
             inl (record { number-is = h .0; not-0 = nz; broken = late-named l supply K (h .0); cycle-0 = h .1; jobs-0 = h .2 });
         always = λ b R.
             ⊎-elim
-            (λ (B : Breaks (deadline-missed l) b).
-            let G : FirstLate (planOf l) (b .task) (b .margin) = B .broken in
-            let refused : judged .number ≡ 0 → ⊥ = λ ok. G .fails-first .fails (accepted-exactly l supply K .0 ok (G .place) (G .below)) in
+            (λ (breaks : Breaks (deadline-missed l) b).
+            let late : FirstLate (planOf l) (b .task) (b .margin) = breaks .broken in
+            let refused : judged .number ≡ 0 → ⊥ = λ ok. late .fails-first .fails (accepted-exactly l supply K .0 ok (late .place) (late .below)) in
             let h = late-or-not z refused in
-            let F = late-named l supply K (h .0) in
-            let same = fails-first-alone (planOf l) (F .place) (G .place) (F .fails-first) (G .fails-first) in
-            alike judged b (h .0 ∙ sym (B .number-is)) (F .named ∙ ap suc same ∙ sym (G .named))
-            (F .margin-is ∙ ap (λ (i : ℕ). subℕ (given (planOf l) (planOf l .runtime) i 0 (planOf l .due i)) (planOf l .runtime i 0)) same ∙ sym (G .margin-is)) (h .1 ∙ sym (B .cycle-0)) (h .2 ∙ sym (B .jobs-0)))
+            let named = late-named l supply K (h .0) in
+            let same = fails-first-alone (planOf l) (named .place) (late .place) (named .fails-first) (late .fails-first) in
+            alike judged b (h .0 ∙ sym (breaks .number-is)) (named .named ∙ ap suc same ∙ sym (late .named))
+            (named .margin-is ∙ ap (λ (i : ℕ). subℕ (given (planOf l) (planOf l .runtime) i 0 (planOf l .due i)) (planOf l .runtime i 0)) same ∙ sym (late .margin-is)) (h .1 ∙ sym (breaks .cycle-0)) (h .2 ∙ sym (breaks .jobs-0)))
             (λ x. absurd (x .1))
             R;
       }
@@ -250,20 +247,20 @@ module _ (l : TaskList) (supply : ℕ) where
 
   pub build-goes : (old new : List ℕ) (v : Verdict) → Built l supply old new v → GoesBy (buildRules l supply (length old)) (verdictAnswer v)
   unfolding buildRules fitted verdictAnswer refusal
-  build-goes old new v B =
-      goes-then (listRules l supply) (table-short l (length old) then no-more) judged _ list-goes (λ nz. ap verdictAnswer (B .answer ∙ refused-kept (length old) nz .0))
+  build-goes old new v built =
+      goes-then (listRules l supply) (table-short l (length old) then no-more) judged _ list-goes (λ nz. ap verdictAnswer (built .answer ∙ refused-kept (length old) nz .0))
       (λ z.
       subst (GoesBy (table-short l (length old) then no-more))
-      (sym (ap verdictAnswer (B .answer ∙ ap (λ (x : Verdict). fitted x (length old)) (accepted-as l supply z .is)) ∙ of-choice verdictAnswer _ _ _))
+      (sym (ap verdictAnswer (built .answer ∙ ap (λ (x : Verdict). fitted x (length old)) (accepted-as l supply z .is)) ∙ of-choice verdictAnswer _ _ _))
       (goes-by-rule 7 _ _ _ refl (ltb-true (length old) (cycleOf l)) (lt-ltb (length old) (cycleOf l))))
 
   pub start-goes : (asked : Asked) (clock : ℕ) (log log′ : List ℕ) (r : Started) → Begins l supply asked clock log log′ r → GoesBy (startRules l supply (length log)) (begunAnswer (r .answer))
   unfolding startRules begunOf begunAnswer refusal none
-  start-goes asked clock log log′ r B =
-      goes-then (listRules l supply) (log-short-for l (length log) then no-more) judged _ list-goes (λ nz. ap begunAnswer (B .answer) ∙ refused-kept (length log) nz .1)
+  start-goes asked clock log log′ r begins =
+      goes-then (listRules l supply) (log-short-for l (length log) then no-more) judged _ list-goes (λ nz. ap begunAnswer (begins .answer) ∙ refused-kept (length log) nz .1)
       (λ z.
       subst (GoesBy (log-short-for l (length log) then no-more))
-      (sym (ap begunAnswer (B .answer ∙ ap (λ (x : Verdict). begunOf x (length log)) (accepted-as l supply z .is)) ∙ of-choice begunAnswer _ _ _))
+      (sym (ap begunAnswer (begins .answer ∙ ap (λ (x : Verdict). begunOf x (length log)) (accepted-as l supply z .is)) ∙ of-choice begunAnswer _ _ _))
       (goes-by-rule 11 _ _ _ refl (ltb-true (length log) (jobsOf l)) (lt-ltb (length log) (jobsOf l))))
 
 -- ---- refusals 9 to 14
@@ -349,7 +346,7 @@ module _ (s : State) (table : List ℕ) (clock report : ℕ) (log : List ℕ) wh
   clock-goes : s .clock ≤ 4294967295 → GoesBy (clock-wrong s table clock then no-more) (of13 s clock)
   unfolding of13
   clock-goes u32 =
-      goes-unless 12 _ (eqb clock (nextClock (s .clock))) (λ f F. eqb-false clock (nextClock (s .clock)) f (follows-next (s .clock) clock F))
+      goes-unless 12 _ (eqb clock (nextClock (s .clock))) (λ f so. eqb-false clock (nextClock (s .clock)) f (follows-next (s .clock) clock so))
       (λ wrong. ne-eqb clock (nextClock (s .clock)) (λ e. wrong (next-follows (s .clock) clock u32 e)))
 
   report-goes : GoesBy (report-wrong s table report then no-more) (of14 (running s table) report)

@@ -51,15 +51,15 @@ note-next p byte end e pos so-far none some =
 -- ---- the ends of a course
 module _ (l : TaskList) (supply : ℕ) (asked : Asked) (clock : ℕ) (log : List ℕ) (need : Demand) (tab ends : List ℕ)
     (ok : verdictAnswer (verdictOf l supply) .number ≡ 0) (room : jobsOf l ≤ length log) (needs : (i k : ℕ) → i < l .count → k < jobsIn l i → 1 ≤ need i k) (own : Own (planOf l) (cycleOf l) tab) where
-  abbrev F : FullRun l
-  F = course-run l supply asked clock log need tab ends ok room needs own
+  abbrev run : FullRun l
+  run = course-run l supply asked clock log need tab ends ok room needs own
 
   abbrev c : ℕ → Course
   c = courseAt tab need (firstOf l supply asked clock log ends)
 
   no-refusal : (p : ℕ) → p < cycleOf l → refusalIn tab need (c p) ≡ 0
   unfolding course-run refusal
-  no-refusal p lp = sym (ap (λ (a : Answer). a .number) (closed-number (refusalIn tab need (c p)))) ∙ no-step-refused l F p lp
+  no-refusal p lp = sym (ap (λ (a : Answer). a .number) (closed-number (refusalIn tab need (c p)))) ∙ no-step-refused l run p lp
 
   all-noted : (p : ℕ) → p < cycleOf l → c (suc p) .ends ≡ noted (c (suc p) .log) (c (suc p) .state .position) (c p .ends)
   unfolding courseAt closed endsBy answerOf
@@ -82,30 +82,30 @@ module _ (l : TaskList) (supply : ℕ) (asked : Asked) (clock : ℕ) (log : List
     noted-at p lp =
         ap (λ (x : List ℕ). getD x (placeOf l i k) 0) (all-noted p lp)
         ∙ overwrite-at _ (c p .ends) 0 (length (c p .ends)) (placeOf l i k) (here p (omega arith)) (here p (omega arith))
-        ∙ ap (λ (x : ℕ). endOf x (getD (c (suc p) .log) (placeOf l i k) 0) (getD (c p .ends) (placeOf l i k) 0)) (reached l F (suc p) lp .position-is)
+        ∙ ap (λ (x : ℕ). endOf x (getD (c (suc p) .log) (placeOf l i k) 0) (getD (c p .ends) (placeOf l i k) 0)) (reached l run (suc p) lp .position-is)
 
-    end-pos : 0 < endIn l (F .logs) i k
-    end-pos = omega (arith, ends-in-own-slice l F i k li lk .1 .end-is)
+    end-pos : 0 < endIn l (run .logs) i k
+    end-pos = omega (arith, ends-in-own-slice l run i k li lk .1 .end-is)
 
-    noted-by : (p : ℕ) → p ≤ cycleOf l → getD (c p .ends) (placeOf l i k) 0 ≡ choose (leb (endIn l (F .logs) i k) p) (endIn l (F .logs) i k) 0
+    noted-by : (p : ℕ) → p ≤ cycleOf l → getD (c p .ends) (placeOf l i k) 0 ≡ choose (leb (endIn l (run .logs) i k) p) (endIn l (run .logs) i k) 0
     unfolding courseAt firstOf course-run
     noted-by zero lp =
-        overwrite-at (λ _. 0) ends 0 (length ends) (placeOf l i k) (omega (arith, inside)) (omega (arith, inside)) ∙ sym (choose-no _ _ _ (lt-leb (endIn l (F .logs) i k) 0 end-pos))
+        overwrite-at (λ _. 0) ends 0 (length ends) (placeOf l i k) (omega (arith, inside)) (omega (arith, inside)) ∙ sym (choose-no _ _ _ (lt-leb (endIn l (run .logs) i k) 0 end-pos))
     noted-by (suc p) lp =
         noted-at p lp
-        ∙ note-next p _ _ (endIn l (F .logs) i k) end-pos (noted-by p (omega arith)) (none-before-end l F i k li lk (suc p))
-        (λ now z. some-at-end l F i k li lk (ap (λ (q : ℕ). getD (F .logs q) (placeOf l i k) 0) (sym now) ∙ z))
+        ∙ note-next p _ _ (endIn l (run .logs) i k) end-pos (noted-by p (omega arith)) (none-before-end l run i k li lk (suc p))
+        (λ now z. some-at-end l run i k li lk (ap (λ (q : ℕ). getD (run .logs q) (placeOf l i k) 0) (sym now) ∙ z))
 
-    pub ends-are : getD (c (cycleOf l) .ends) (placeOf l i k) 0 ≡ endIn l (F .logs) i k
-    ends-are = noted-by (cycleOf l) (omega arith) ∙ choose-yes _ _ _ (le-leb (endIn l (F .logs) i k) (cycleOf l) (end-within l F i k li lk))
+    pub ends-are : getD (c (cycleOf l) .ends) (placeOf l i k) 0 ≡ endIn l (run .logs) i k
+    ends-are = noted-by (cycleOf l) (omega arith) ∙ choose-yes _ _ _ (le-leb (endIn l (run .logs) i k) (cycleOf l) (end-within l run i k li lk))
 
 -- ---- the drive
 -- What a sheet shows of a full run: the position, the bytes and the ends.
-pub record Shows (l : TaskList) (F : FullRun l) (needs log ends : List ℕ) (last : State) : Type 0 where
+pub record Shows (l : TaskList) (run : FullRun l) (needs log ends : List ℕ) (last : State) : Type 0 where
   pub whole : last .position ≡ cycleOf l
-  pub log-is : log ≡ F .logs (cycleOf l)
+  pub log-is : log ≡ run .logs (cycleOf l)
   pub byte-is : (i k : ℕ) → i < l .count → k < jobsIn l i → getD log (placeOf l i k) 0 ≡ choose (leb (getD needs (placeOf l i k) 0) (planOf l .runtime i k)) 1 2
-  pub end-is : (i k : ℕ) → i < l .count → k < jobsIn l i → getD ends (placeOf l i k) 0 ≡ endIn l (F .logs) i k
+  pub end-is : (i k : ℕ) → i < l .count → k < jobsIn l i → getD ends (placeOf l i k) 0 ≡ endIn l (run .logs) i k
 
 module _ (l : TaskList) (supply : ℕ) (asked : Asked) (clock : ℕ) (needs table table′ log log′ ends ends′ : List ℕ) (r : Driven) (D : Drives l supply asked clock needs table table′ log log′ ends ends′ r)
     (ok : verdictAnswer (verdictOf l supply) .number ≡ 0) (reaches : cycleOf l ≤ length table) (room : jobsOf l ≤ length log) (from-one : (x : ℕ) → x < jobsOf l → 1 ≤ getD needs x 0) where

@@ -93,27 +93,27 @@ not-one-accepted-table a g v w TA TG same = omega (arith, ap (λ (bytes : List �
     begins-G = ap (λ (bytes : List ℕ). getD bytes 0 0) (builds G 12 g w (omega (arith, ap (λ (n : Answer). n .cycle) (starred .verdict-G))) TG ∙ starred .table-G)
 
 -- ---- steps
-module _ (l : TaskList) (F : FullRun l) where
-  ends : (i : ℕ) → i < l .count → (p : ℕ) × EndsWith l F i 0 p
-  ends i li = ends-in-own-slice l F i 0 li (has-job l F i li)
+module _ (l : TaskList) (run : FullRun l) where
+  ends : (i : ℕ) → i < l .count → (p : ℕ) × EndsWith l run i 0 p
+  ends i li = ends-in-own-slice l run i 0 li (has-job l run i li)
 
   -- A step that does nothing: the log would keep its zeros.
-  pub not-all-idle : ((p : ℕ) → p < cycleOf l → F .logs (suc p) ≡ F .logs p) → ⊥
+  pub not-all-idle : ((p : ℕ) → p < cycleOf l → run .logs (suc p) ≡ run .logs p) → ⊥
   not-all-idle idle =
-      let first = has-task l F in
+      let first = has-task l run in
       let e = ends 0 first in
-      logging-shows l F 0 0 first (has-job l F 0 first) (e .0) (e .1) (idle (e .0) (e .1 .within))
+      logging-shows l run 0 0 first (has-job l run 0 first) (e .0) (e .1) (idle (e .0) (e .1 .within))
 
   -- A first step that closes the whole cycle while later ones only count: of two tasks, two jobs would end together.
-  pub not-all-at-once : 1 < l .count → ((p : ℕ) → 0 < p → p < cycleOf l → F .logs (suc p) ≡ F .logs p) → ⊥
-  not-all-at-once two idle = omega (arith, one-end-a-slice l F 0 0 1 0 0 (at-once 0 (omega arith)) (at-once 1 two) .0)
+  pub not-all-at-once : 1 < l .count → ((p : ℕ) → 0 < p → p < cycleOf l → run .logs (suc p) ≡ run .logs p) → ⊥
+  not-all-at-once two idle = omega (arith, one-end-a-slice l run 0 0 1 0 0 (at-once 0 (omega arith)) (at-once 1 two) .0)
     where
-      at-once : (i : ℕ) → i < l .count → EndsWith l F i 0 0
+      at-once : (i : ℕ) → i < l .count → EndsWith l run i 0 0
       at-once i li = ended (ends i li .0) (ends i li .1)
         where
-          ended : (p : ℕ) → EndsWith l F i 0 p → EndsWith l F i 0 0
+          ended : (p : ℕ) → EndsWith l run i 0 p → EndsWith l run i 0 0
           ended zero E = E
-          ended (suc p) E = absurd (logging-shows l F i 0 li (has-job l F i li) (suc p) E (idle (suc p) (omega arith) (E .within)))
+          ended (suc p) E = absurd (logging-shows l run i 0 li (has-job l run i li) (suc p) E (idle (suc p) (omega arith) (E .within)))
 
 -- So no step that keeps its contract is such a one, since list A has a full run.
 pub record StepKept : Type 0 where
@@ -124,12 +124,12 @@ pub record StepKept : Type 0 where
 module _ (step : StepKept) where
   pub no-idle-step : ((s : State) (table : List ℕ) (clock report : ℕ) (log : List ℕ) → step .leaves s table clock report log ≡ log) → ⊥
   no-idle-step idle =
-      let F = runOnA Table in
-      not-all-idle (listOf A) F (λ p lp. F .steps .stepped p lp .bytes ∙ sym (step .keeps (F .states p) (F .tab) _ _ (F .logs p) .bytes) ∙ idle (F .states p) (F .tab) _ _ (F .logs p))
+      let run = runOnA Table in
+      not-all-idle (listOf A) run (λ p lp. run .steps .stepped p lp .bytes ∙ sym (step .keeps (run .states p) (run .tab) _ _ (run .logs p) .bytes) ∙ idle (run .states p) (run .tab) _ _ (run .logs p))
 
   pub no-step-for-all : ((s : State) (table : List ℕ) (clock report : ℕ) (log : List ℕ) → 0 < s .position → step .leaves s table clock report log ≡ log) → ⊥
   unfolding listOf A
   no-step-for-all idle =
-      let F = runOnA Table in
-      not-all-at-once (listOf A) F (omega arith) (λ p later lp.
-      F .steps .stepped p lp .bytes ∙ sym (step .keeps (F .states p) (F .tab) _ _ (F .logs p) .bytes) ∙ idle (F .states p) (F .tab) _ _ (F .logs p) (omega (arith, reached (listOf A) F p (omega arith) .position-is)))
+      let run = runOnA Table in
+      not-all-at-once (listOf A) run (omega arith) (λ p later lp.
+      run .steps .stepped p lp .bytes ∙ sym (step .keeps (run .states p) (run .tab) _ _ (run .logs p) .bytes) ∙ idle (run .states p) (run .tab) _ _ (run .logs p) (omega (arith, reached (listOf A) run p (omega arith) .position-is)))

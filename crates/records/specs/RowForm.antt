@@ -32,11 +32,11 @@ pub data Began : List ℕ → Bool → ℕ → Type 0 where
 
 began-field : {p : List ℕ} {d : Bool} {v : ℕ} → Began p d v → d ≡ true → Field p v
 began-field none t = absurd (true≢false (sym t))
-began-field (some B) t = B .field
+began-field (some begun) t = begun .field
 
 began-all : {p : List ℕ} {d : Bool} {v w : ℕ} → Began p d v → Field p w → (d ≡ true) × (v ≡ w)
-began-all none F = absurd (omega (arith, F .one-or-more))
-began-all (some B) F = (refl, B .field .worth ∙ sym (F .worth))
+began-all none field = absurd (omega (arith, field .one-or-more))
+began-all (some begun) field = (refl, begun .field .worth ∙ sym (field .worth))
 
 -- one digit more
 value-more : (p : List ℕ) (v b : ℕ) → valueAfter v (p ++ b ∷ []) ≡ valueAfter v p * 10 + (b - '0')
@@ -49,10 +49,10 @@ not-zero v h z = true≢false (both-false (eqb v 0) true .0 (either-false (leb 1
 
 -- a field with room for one digit more
 room-short : (p : List ℕ) (v : ℕ) → Open p v → full true v ≡ false → length p ≤ 8
-room-short p v B h =
+room-short p v begun h =
     ⊎-elim
     (λ (l : length p ≤ 8). l)
-    (λ (l : 8 < length p). absurd (omega (arith, not-full true v h, B .above (omega (arith, not-zero v h)), pow-le-pow-right {n = 10} (omega arith) {i = 9} {j = length p} l)))
+    (λ (l : 8 < length p). absurd (omega (arith, not-full true v h, begun .above (omega (arith, not-zero v h)), pow-le-pow-right {n = 10} (omega arith) {i = 9} {j = length p} l)))
     (le-or-lt (length p) 8)
 
 one-digit : (b : ℕ) → '0' ≤ b → b ≤ '9' → Open (b ∷ []) (0 * 10 + (b - '0'))
@@ -72,42 +72,42 @@ one-digit b from to = record {
 }
 
 one-digit-more : (p : List ℕ) (v b : ℕ) → Open p v → full true v ≡ false → '0' ≤ b → b ≤ '9' → Open (p ++ b ∷ []) (v * 10 + (b - '0'))
-one-digit-more p v b B h from to =
+one-digit-more p v b begun h from to =
     let nz = not-zero v h in
     let n : length (p ++ b ∷ []) ≡ suc (length p) = length-append p (b ∷ []) ∙ omega arith in
-    let first : getD (p ++ b ∷ []) 0 0 ≡ getD p 0 0 = List·getD-append p (b ∷ []) 0 0 (B .field .one-or-more) in
+    let first : getD (p ++ b ∷ []) 0 0 ≡ getD p 0 0 = List·getD-append p (b ∷ []) 0 0 (begun .field .one-or-more) in
     record {
       field = record {
         digits = λ i l.
             ⊎-elim
-            (λ (k : i < length p). rw (List·getD-append p (b ∷ []) 0 i k) (B .field .digits i k))
+            (λ (k : i < length p). rw (List·getD-append p (b ∷ []) 0 i k) (begun .field .digits i k))
             (λ (e : i ≡ length p). rw (e, getD-append-seam p b [] 0) (from, to))
             (below-suc i (length p) (omega arith));
         one-or-more = omega arith;
-        nine-or-fewer = omega (arith, room-short p v B h);
-        no-leading-zero = λ e. absurd (nz (B .leading-zero (sym first ∙ e)));
-        worth = ap (λ (x : ℕ). x * 10 + (b - '0')) (B .field .worth) ∙ sym (value-more p 0 b);
+        nine-or-fewer = omega (arith, room-short p v begun h);
+        no-leading-zero = λ e. absurd (nz (begun .leading-zero (sym first ∙ e)));
+        worth = ap (λ (x : ℕ). x * 10 + (b - '0')) (begun .field .worth) ∙ sym (value-more p 0 b);
       };
-      below = rw (n, pow-suc 10 (length p)) (omega (arith, B .below));
-      above = λ _. rw (n, pow-suc 10 (length p)) (omega (arith, B .above (omega arith)));
+      below = rw (n, pow-suc 10 (length p)) (omega (arith, begun .below));
+      above = λ _. rw (n, pow-suc 10 (length p)) (omega (arith, begun .above (omega arith)));
       zero-leads = λ z. absurd (nz (omega arith));
-      leading-zero = λ e. absurd (nz (B .leading-zero (sym first ∙ e)));
+      leading-zero = λ e. absurd (nz (begun .leading-zero (sym first ∙ e)));
     }
 
 began-more : {p : List ℕ} {d : Bool} {v : ℕ} → Began p d v → (b : ℕ) → full d v ≡ false → '0' ≤ b → b ≤ '9' → Began (p ++ b ∷ []) true (v * 10 + (b - '0'))
 began-more none b h from to = some (one-digit b from to)
-began-more (some {p = p} {v = v} B) b h from to = some (one-digit-more p v b B h from to)
+began-more (some {p = p} {v = v} begun) b h from to = some (one-digit-more p v b begun h from to)
 
 -- Within a field there is room for its next digit.
 room : {p : List ℕ} {d : Bool} {v : ℕ} → Began p d v → (b : ℕ) (rest : List ℕ) (w : ℕ) → Field (p ++ b ∷ rest) w → full d v ≡ false
-room none b rest w F = refl
-room (some {p = p} {v = v} B) b rest w F =
+room none b rest w field = refl
+room (some {p = p} {v = v} begun) b rest w field =
     let n : length (p ++ b ∷ rest) ≡ length p + suc (length rest) = length-append p (b ∷ rest) in
     ⊎-elim
     (λ (z : v ≡ 0).
-    absurd (omega (arith, B .field .one-or-more, F .no-leading-zero (List·getD-append p (b ∷ rest) 0 0 (B .field .one-or-more) ∙ B .zero-leads z))))
+    absurd (omega (arith, begun .field .one-or-more, field .no-leading-zero (List·getD-append p (b ∷ rest) 0 0 (begun .field .one-or-more) ∙ begun .zero-leads z))))
     (λ (nz : v ≡ 0 → ⊥).
-    rw (ne-eqb v 0 nz, lt-leb 100000000 v (omega (arith, B .below, pow-le-pow-right {n = 10} (omega arith) {i = length p} {j = 8} (omega (arith, F .nine-or-fewer))))))
+    rw (ne-eqb v 0 nz, lt-leb 100000000 v (omega (arith, begun .below, pow-le-pow-right {n = 10} (omega arith) {i = length p} {j = 8} (omega (arith, field .nine-or-fewer))))))
     (eq-or-ne v 0)
 
 -- ---- one byte in a line
@@ -135,35 +135,35 @@ line-append s (x ∷ xs) ys = line-append (withByte s x) xs ys
 
 field-rest : (f p : List ℕ) (s : Line) (w : ℕ) → Began p (s .digits) (s .value) → Field (p ++ f) w → lineFrom s f ≡ inField s w
 unfolding lineFrom
-field-rest [] p s w B F =
-    let e = began-all B (subst (λ (x : List ℕ). Field x w) (append-nil p) F) in
+field-rest [] p s w begun field =
+    let e = began-all begun (subst (λ (x : List ℕ). Field x w) (append-nil p) field) in
     ap₂ (λ (x : Bool) (y : ℕ). record { closed = s .closed; digits = x; value = y; period = s .period; runtime = s .runtime }) (e .0) (e .1)
-field-rest (b ∷ f) p s w B F =
-    let r = room B b f w F in
+field-rest (b ∷ f) p s w begun field =
+    let r = room begun b f w field in
     let at : length p < length (p ++ b ∷ f) = omega (arith, length-append p (b ∷ f)) in
-    let dig : ('0' ≤ b) × (b ≤ '9') = rw (getD-append-seam p b f 0) at (F .digits (length p) at) in
+    let dig : ('0' ≤ b) × (b ≤ '9') = rw (getD-append-seam p b f 0) at (field .digits (length p) at) in
     ap (λ (x : Line). lineFrom x f) (digit-taken s b (dig .0) (dig .1) r)
-    ∙ field-rest f (p ++ b ∷ []) (inField s (s .value * 10 + (b - '0'))) w (began-more B b r (dig .0) (dig .1))
-    (subst (λ (x : List ℕ). Field x w) (sym (append-assoc p (b ∷ []) f)) F)
+    ∙ field-rest f (p ++ b ∷ []) (inField s (s .value * 10 + (b - '0'))) w (began-more begun b r (dig .0) (dig .1))
+    (subst (λ (x : List ℕ). Field x w) (sym (append-assoc p (b ∷ []) f)) field)
 
 -- at the start of a field
 module _ (s : Line) (d : s .digits ≡ false) (z : s .value ≡ 0) where
   field-read : (f : List ℕ) (w : ℕ) → Field f w → lineFrom s f ≡ inField s w
-  field-read f w F = field-rest f [] s w (rw (d, z) none) F
+  field-read f w field = field-rest f [] s w (rw (d, z) none) field
 
   then-comma : (f rest : List ℕ) (w : ℕ) → Field f w → lineFrom s (f ++ comma ∷ rest) ≡ lineFrom (withComma (inField s w)) rest
   unfolding lineFrom withByte choose
-  then-comma f rest w F = line-append s f (comma ∷ rest) ∙ ap (λ (x : Line). lineFrom x (comma ∷ rest)) (field-read f w F)
+  then-comma f rest w field = line-append s f (comma ∷ rest) ∙ ap (λ (x : Line). lineFrom x (comma ∷ rest)) (field-read f w field)
 
 abbrev whole : ℕ → ℕ → ℕ → Line
 whole x y z = record { closed = 2; digits = true; value = z; period = x; runtime = y }
 
 three-read : {line : List ℕ} {x y z : ℕ} → Fields line (x ∷ y ∷ z ∷ []) → lineFrom fresh line ≡ whole x y z
 unfolding withComma choose
-three-read {x = x} {y = y} {z = z} (more {bytes = a} {rest = r} F (more {bytes = b} {rest = c} G (one H))) =
-    then-comma fresh refl refl a (b ++ comma ∷ c) x F
-    ∙ then-comma (record { closed = 1; digits = false; value = 0; period = x; runtime = 0 }) refl refl b c y G
-    ∙ field-read (record { closed = 2; digits = false; value = 0; period = x; runtime = y }) refl refl c z H
+three-read {x = x} {y = y} {z = z} (more {bytes = a} {rest = r} field (more {bytes = b} {rest = c} field₂ (one field₃))) =
+    then-comma fresh refl refl a (b ++ comma ∷ c) x field
+    ∙ then-comma (record { closed = 1; digits = false; value = 0; period = x; runtime = 0 }) refl refl b c y field₂
+    ∙ field-read (record { closed = 2; digits = false; value = 0; period = x; runtime = y }) refl refl c z field₃
 
 -- ---- out of form once is out of form for good
 spoilt-stays : (b : ℕ) → withByte spoilt b ≡ spoilt
@@ -251,28 +251,28 @@ module _ (p bs : List ℕ) (s : Line) (b : ℕ) where
   }
 
   comma-closes : (x : Line) → b ≡ comma → withByte s b ≡ x → before x ≡ before s ++ s .value ∷ [] → Field p (s .value) → Rest [] bs x (after x) → Rest p (b ∷ bs) s (after (withByte s b))
-  comma-closes x c e eb F R = record {
+  comma-closes x c e eb field R = record {
     found = s .value ∷ R .found;
-    fields = subst (λ (a : ℕ). Fields (p ++ a ∷ bs) (s .value ∷ R .found)) (sym c) (more F (R .fields));
+    fields = subst (λ (a : ℕ). Fields (p ++ a ∷ bs) (s .value ∷ R .found)) (sym c) (more field (R .fields));
     together = sym (append-assoc (before s) (s .value ∷ []) (R .found)) ∙ ap (λ (l : List ℕ). l ++ R .found) (sym eb) ∙ R .together ∙ ap (λ (y : Line). values (after y)) (sym e);
   }
 
 rest-found : (bs p : List ℕ) (s : Line) → Began p (s .digits) (s .value) → complete (lineFrom s bs) ≡ true → Rest p bs s (taskOf (lineFrom s bs))
 unfolding lineFrom
-rest-found [] p s B h =
+rest-found [] p s begun h =
     let e = complete-tells s h in
     record {
       found = s .value ∷ [];
-      fields = subst (λ (x : List ℕ). Fields x (s .value ∷ [])) (sym (append-nil p)) (one (began-field B (e .1)));
+      fields = subst (λ (x : List ℕ). Fields x (s .value ∷ [])) (sym (append-nil p)) (one (began-field begun (e .1)));
       together = last-field s (e .0);
     }
-rest-found (b ∷ bs) p s B h =
+rest-found (b ∷ bs) p s begun h =
     let still : (x : Line) → withByte s b ≡ x → complete (lineFrom x bs) ≡ true = λ x e. subst (λ (y : Line). complete (lineFrom y bs) ≡ true) e h in
     elim (byte-does s b) as (λ _. Rest p (b ∷ bs) s (taskOf (lineFrom (withByte s b) bs))) [
       | joins from to f ↦
           let e = digit-taken s b from to f in
-          digit-joins p bs s b _ e (rest-found bs (p ++ b ∷ []) (inField s (s .value * 10 + (b - '0'))) (began-more B b f from to) (still _ e))
-      | closes x c e d z eb t ↦ comma-closes p bs s b x c e eb (began-field B t) (rest-found bs [] x (rw (d, z) none) (still x e))
+          digit-joins p bs s b _ e (rest-found bs (p ++ b ∷ []) (inField s (s .value * 10 + (b - '0'))) (began-more begun b f from to) (still _ e))
+      | closes x c e d z eb t ↦ comma-closes p bs s b x c e eb (began-field begun t) (rest-found bs [] x (rw (d, z) none) (still x e))
       | spoils e ↦ absurd (spoilt-never bs (withByte s b) e h)
     ]
 

@@ -1,13 +1,13 @@
 -- What a step comes to at each way out, as laws over plain values.
 use mathlib.Core.Path.{_≡_, refl, sym, ap, ap₂, _∙_}
 use mathlib.Core.List.{List}
-use mathlib.Core.Bool.{Bool, true, false}
+use mathlib.Core.Bool.{Bool, false}
 use Prim.Native.Nat.{ℕ, zero, suc, _+_, _-_, _≤_, _<_}
 use native.Mathlib.Omega.{arith}
 use lib.ListN.{length}
 use Rattle.basis.specs.Bytes.{at}
-use Rattle.basis.specs.Answer.{Answer, else-found, else-kept, refusal, none, _orElse_}
-use Rattle.basis.specs.Choose.{choose}
+use Rattle.basis.specs.Answer.{Answer, else-found, else-kept, refusal, none, _orElse_, number-if, number-unless}
+use Rattle.basis.specs.Choose.{choose, of-choice}
 use Rattle.run.specs.declared.ask.Asked.{Asked}
 use Rattle.run.specs.declared.Mode.the-variants.{Table}
 use Rattle.run.specs.declared.State.{State}
@@ -35,11 +35,8 @@ log-is (suc n) log after nz = refl
 
 -- Refusals 12 to 14 in a row, by number.
 in-a-row : (a b c : Bool) → choose a 12 (choose b (choose c 14 0) 13) ≡ (choose a (refusal 12 0) none orElse choose b none (refusal 13 0) orElse choose c (refusal 14 0) none) .number
-unfolding choose _orElse_ refusal none
-in-a-row true b c = refl
-in-a-row false true true = refl
-in-a-row false true false = refl
-in-a-row false false c = refl
+unfolding refusal none
+in-a-row a b c = sym (number-if a 11 _ ∙ ap (choose a 12) (number-unless b 12 _ ∙ ap (λ (x : ℕ). choose b x 13) (of-choice (λ (x : Answer). x .number) c (refusal 14 0) none)))
 
 -- What the loop over the tasks takes: their jobs have places in the log.
 pub record Closes (s : State) (log : List ℕ) : Type 0 where
@@ -70,7 +67,7 @@ pub record Passed (s : State) (table : List ℕ) (clock report : ℕ) (log : Lis
   pub accepted : StepAccepted s table clock report log
   pub ran-is : ran ≡ running s table
 
-module _ (s : State) (table : List ℕ) (clock report : ℕ) (log : List ℕ) (asked : Asked) (A : Answers s table asked) where
+module _ (s : State) (table : List ℕ) (clock report : ℕ) (log : List ℕ) (asked : Asked) (who : Answers s table asked) where
   refused-step : (n : ℕ) → n ≡ stepRefusal s table clock report log → (n ≡ 0 → ⊥) → SteppedIn s table clock report log log (s .used) (s .ended) (Refused n)
   refused-step n e nz = record {
     answer = closed-is n nz ∙ ap answerOf e;
@@ -82,20 +79,20 @@ module _ (s : State) (table : List ℕ) (clock report : ℕ) (log : List ℕ) (a
   -- Refusals 9 to 11 come first,
   pub step-not-asked : (asked .number ≡ 0 → ⊥) → SteppedIn s table clock report log log (s .used) (s .ended) (Refused (asked .number))
   unfolding stepFound
-  step-not-asked nz = refused-step (asked .number) (A .number-is ∙ sym (ap (λ (a : Answer). a .number) (else-kept (whoFound s table) _ (λ z. nz (A .number-is ∙ z))))) nz
+  step-not-asked nz = refused-step (asked .number) (who .number-is ∙ sym (ap (λ (a : Answer). a .number) (else-kept (whoFound s table) _ (λ z. nz (who .number-is ∙ z))))) nz
 
   -- then those from 12 on,
   module _ (z : asked .number ≡ 0) (m : ℕ) (em : m ≡ twelveOn (asked .jobs) (length log) (s .clock) clock (asked .ran) report) where
     found-is : m ≡ stepRefusal s table clock report log
     unfolding stepFound twelveOn of12 of13 of14
-    found-is = em ∙ rw (A .jobs-are z, A .ran-is z) (in-a-row _ _ _) ∙ sym (ap (λ (a : Answer). a .number) (else-found (whoFound s table) _ (sym (A .number-is) ∙ z)))
+    found-is = em ∙ rw (who .jobs-are z, who .ran-is z) (in-a-row _ _ _) ∙ sym (ap (λ (a : Answer). a .number) (else-found (whoFound s table) _ (sym (who .number-is) ∙ z)))
 
     pub step-refused : (m ≡ 0 → ⊥) → SteppedIn s table clock report log log (s .used) (s .ended) (Refused m)
     step-refused nz = refused-step m found-is nz
 
     -- and what is not refused is done.
     pub passes : m ≡ 0 → Passed s table clock report log (asked .ran)
-    passes zm = record { accepted = step-accepted s table clock report log .0 (sym found-is ∙ zm); ran-is = A .ran-is z }
+    passes zm = record { accepted = step-accepted s table clock report log .0 (sym found-is ∙ zm); ran-is = who .ran-is z }
 
 module _ (s : State) (table : List ℕ) (clock report : ℕ) (log : List ℕ) (ran : ℕ) (P : Passed s table clock report log ran) where
   abbrev asked : WhoAccepted s table
@@ -191,8 +188,8 @@ module _ (s : State) (table : List ℕ) (clock report : ℕ) (log log′ used : 
   module _ (e : r ≡ Accepted) where
     pub position-fits : s .position < 4096
     position-fits =
-        let A = step-accepted s table clock report log .0 (accepted-none _ (sym e ∙ S .answer)) .asked in
-        omega (arith, A .not-over, A .is-sound .cycle-to)
+        let who = step-accepted s table clock report log .0 (accepted-none _ (sym e ∙ S .answer)) .asked in
+        omega (arith, who .not-over, who .is-sound .cycle-to)
 
     pub hands-on : Stepped s table clock report log log′ (record { answer = r; state = stateOf (s .periods) (s .runtimes) used ended (s .count) (s .cycle) (s .position + 1) clock (s .mode) })
     unfolding heldAfter

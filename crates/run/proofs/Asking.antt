@@ -10,7 +10,7 @@ use lib.ListN.{length, getD}
 use borrow.Author.Tests.{eq-eqb, ne-eqb, lt-ltb, le-ltb}
 use Rattle.basis.specs.Bytes.{at}
 use Rattle.basis.specs.Choose.{choose, choose-yes, choose-no, bool-cases}
-use Rattle.basis.specs.Answer.{refusal, none, _orElse_, none-number, Answer}
+use Rattle.basis.specs.Answer.{refusal, none-number, number-if, number-unless}
 use Rattle.readings.specs.declared.Entry.the-variants.{Idle, Task, NoEntry}
 use Rattle.readings.specs.Reading.{entryOf}
 use Rattle.readings.specs.Laws.{idle-read, task-read, no-entry-read}
@@ -93,16 +93,9 @@ unfolding ofEntry
 task-is zero nz = absurd (nz refl)
 task-is (suc n) nz = refl
 
--- Refusals 9 to 11 in a row, by number.
-in-a-row : (a b : Bool) (c : Answer) → (choose a none (refusal 9 0) orElse choose b (refusal 10 0) none orElse c) .number ≡ choose a (choose b 10 (c .number)) 9
-unfolding choose _orElse_ refusal none
-in-a-row true true c = refl
-in-a-row true false c = refl
-in-a-row false b c = refl
-
 who-number : (s : State) (table : List ℕ) → whoRefusal s table ≡ choose (sound s) (choose (eqb (s .position) (s .cycle)) 10 (of11By (s .mode) s table .number)) 9
 unfolding whoFound of9 of10 of11
-who-number s table = in-a-row _ _ _
+who-number s table = number-unless (sound s) 8 _ ∙ ap (λ (x : ℕ). choose (sound s) x 9) (number-if (eqb (s .position) (s .cycle)) 9 (of11 s table))
 
 refused-answers : (s : State) (table : List ℕ) (n : ℕ) → suc n ≡ whoRefusal s table → Answers s table (record { number = suc n; jobs = 0; ran = 0 })
 refused-answers s table n e = record { number-is = e; jobs-are = λ z. absurd (omega arith); ran-is = λ z. absurd (omega arith) }

@@ -249,7 +249,7 @@ module _ (t : State) (i : ℕ) (now : State) (is : now ≡ renewed t i) where
   unfolding renewed
   ended-still = ap (λ (x : State). getD (x .ended) i false) is ∙ overwrite-kept _ (t .ended) false i i (omega arith)
 
-  pub late-next : (ran result : ℕ) (old log r : List ℕ) (last finishes : Bool) → log ≡ lateUpTo t ran result old i → last ≡ deadlineNext t i → finishes ≡ endsHere ran result i
-      → r ≡ choose (last && not (getD (now .ended) i false || finishes)) (set log (placeIn (now .periods) (now .cycle) (now .position) i) 3) log → r ≡ lateUpTo t ran result old (i + 1)
+  pub late-next : (ran result : ℕ) (old log r : List ℕ) (last : Bool) → log ≡ lateUpTo t ran result old i → last ≡ deadlineNext t i
+      → r ≡ choose (last && not (getD (now .ended) i false || endsHere ran result i)) (set log (placeIn (now .periods) (now .cycle) (now .position) i) 3) log → r ≡ lateUpTo t ran result old (i + 1)
   unfolding lateUpTo
-  late-next ran result old log r last finishes el et ef er = rw (add-one, ← el, ← et, ← ef, ← ended-still, ← placed) er
+  late-next ran result old log r last el et er = rw (add-one, ← el, ← et, ← ended-still, ← placed) er

@@ -33,19 +33,19 @@ pub(crate) struct Asked {
     pub(crate) ran: usize,
 }
 
-// Task i against the first-ranking open task so far, by their entries. Of equal keys the earlier stays.
-fn better(periods: &[u32; 16], best: usize, i: usize, ended: bool) -> usize
-    requires { ⌜ (i < 16) × (best ≤ 16) ⌝ }
-    ensures { λ r. ⌜ r ≡ firstOf (at (now (periods .entry))) (choose ended 0 1) i best ⌝ }
+// A task against the first-ranking open task so far, by their entries. Of equal keys the earlier stays.
+fn better(periods: &[u32; 16], best: usize, task: usize, ended: bool) -> usize
+    requires { ⌜ (1 ≤ task) × (task ≤ 16) × (best ≤ 16) ⌝ }
+    ensures { λ r. ⌜ r ≡ firstOf (at (now (periods .entry))) (choose ended 0 1) (task - 1) best ⌝ }
 {
     if ended {
         return best;
     }
     if best == 0 {
-        return i + 1;
+        return task;
     }
-    if key_of(periods[i]) < key_of(periods[best - 1]) {
-        return i + 1;
+    if key_of(periods[task - 1]) < key_of(periods[best - 1]) {
+        return task;
     }
     best
 }
@@ -57,9 +57,9 @@ fn first_open(periods: &[u32; 16], ended: &[bool; 16], count: usize) -> usize
     let mut best = 0;
     let mut i = 0;
     while i < count {
-        let next = better(periods, best, i, ended[i]);
-        best = next;
+        let is_ended = ended[i];
         i += 1;
+        best = better(periods, best, i, is_ended);
     }
     best
 }

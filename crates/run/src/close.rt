@@ -101,7 +101,7 @@ pub(crate) fn end_job(ended: &mut [bool; 16], ran: usize, result: u8)
 }
 
 // Whether the job of task i ends in this slice.
-pub(crate) fn finishes(ran: usize, result: u8, i: usize) -> bool
+fn finishes(ran: usize, result: u8, i: usize) -> bool
     requires { ⌜ i < 16 ⌝ }
     ensures { λ r. ⌜ r ≡ endsHere ran result i ⌝ }
 {
@@ -120,10 +120,11 @@ pub(crate) fn mark_late(
     i: usize,
     last: bool,
     ended: bool,
-    finishes: bool,
+    ran: usize,
+    result: u8,
 )
     requires { ⌜ (i < 16) × (placeIn (now periods) cycle position i < length (now log)) ⌝ }
-    ensures { λ _. ⌜ now (log .exit) ≡ choose (last && not (ended || finishes)) (set (now (log .entry)) (placeIn (now (periods .entry)) cycle position i) 3) (now (log .entry)) ⌝ }
+    ensures { λ _. ⌜ now (log .exit) ≡ choose (last && not (ended || endsHere ran result i)) (set (now (log .entry)) (placeIn (now (periods .entry)) cycle position i) 3) (now (log .entry)) ⌝ }
 {
     if !last {
         return;
@@ -131,7 +132,7 @@ pub(crate) fn mark_late(
     if ended {
         return;
     }
-    if finishes {
+    if finishes(ran, result, i) {
         return;
     }
     write(log, periods, cycle, position, i, 3);

@@ -155,7 +155,8 @@ pub fn step_in_place<'a>(
             i,
             age == ask::due_of(period),
             ended[i],
-            close::finishes(ran, result, i),
+            ran,
+            result,
         );
         close::renew_used(used, i, age == period);
         close::renew_ended(ended, i, age == period);

@@ -23,13 +23,13 @@ fn sound_task(cycle: u32, period: u32, runtime: u32, used: u32, ended: bool) -> 
     if !is_within(1, period, runtime) {
         return false;
     }
+    if used < runtime {
+        return true;
+    }
     if runtime < used {
         return false;
     }
-    if ended {
-        return true;
-    }
-    used < runtime
+    ended
 }
 
 // The jobs of all tasks, or 0 where one of them is not sound.

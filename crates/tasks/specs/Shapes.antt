@@ -2,9 +2,7 @@
 use mathlib.Core.Path.{_≡_}
 use mathlib.Core.List.{List}
 use Prim.Native.Nat.{ℕ}
-use lib.Dec.{eqb}
-use Rattle.basis.specs.Answer.{Answer, refusal, firstFound, none}
-use Rattle.basis.specs.Choose.{choose}
+use Rattle.basis.specs.Answer.{Answer, refusal, firstFound}
 use Rattle.tasks.specs.declared.Task.{Task}
 use Rattle.tasks.specs.declared.Finding.{Finding}
 use Rattle.tasks.specs.declared.Running.{Running}
@@ -13,10 +11,6 @@ use Rattle.tasks.specs.Bounds.{multiple, jobSum, ofCycle}
 -- A finding as an answer.
 abbrev pub asAnswer : Finding → Answer
 asAnswer f = refusal (f .number) (f .task)
-
--- Refusal 5 of the first task at which the memory is short; 0 for none.
-unfoldable pub shortAt : ℕ → Answer
-shortAt n = choose (eqb n 0) none (refusal 5 n)
 
 -- The refusal r is what is found; without a number, nothing is.
 pub record Finds (found : Answer) (r : Finding) : Type 0 where

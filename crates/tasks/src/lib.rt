@@ -1,13 +1,12 @@
 // The task list by value, its cycle by Euclid's rule, and what bounds it: refusals 1 to 6.
 ghost use mathlib.Core.Path.{_≡_};
 ghost use Prim.Native.Nat.{ℕ, _+_, _≤_, _<_};
-ghost use lib.Dec.{ltb};
-ghost use Rattle.basis.specs.Choose.{choose, within};
-ghost use Rattle.basis.specs.Answer.{refusal, none, _orElse_, firstFound};
+ghost use Rattle.basis.specs.Choose.{within};
+ghost use Rattle.basis.specs.Answer.{_orElse_, firstFound};
 ghost use Rattle.tasks.specs.List.{dueOf, keyOf, runtimeOf};
 ghost use Rattle.tasks.specs.Euclid.{gcdOf, lcmOf};
 ghost use Rattle.tasks.specs.Bounds.{ofNumbers, ofTask, ofMemory, boundsOf};
-ghost use Rattle.tasks.specs.Shapes.{asAnswer, shortAt, Finds, Multiplies};
+ghost use Rattle.tasks.specs.Shapes.{asAnswer, Finds, Multiplies};
 ghost use Rattle.tasks.specs.Kept.{AllFit};
 
 // Period and run-time in slices, sample memory in words.
@@ -45,9 +44,9 @@ pub fn runtime_of(task: Task) -> u32
 }
 
 // A refusal by its number, with the task that it names; number 0 where there is none.
-pub struct Finding {
-    pub number: u32,
-    pub task: usize,
+struct Finding {
+    number: u32,
+    task: usize,
 }
 
 // What the checks of a list's bounds come to.
@@ -97,29 +96,13 @@ fn wide(x: u32) -> u64
     x as u64
 }
 
-// The first task at which the memory exceeds the supply, 0 for none, with one more task, up to which it sums up to this.
-fn of_sum(short: usize, supply: u32, sum: u64, task: usize) -> usize
-    requires { ⌜ 0 < task ⌝ }
-    ensures { λ r. ⌜ shortAt r ≡ (shortAt short orElse choose (ltb supply sum) (refusal 5 task) none) ⌝ }
-{
-    if short != 0 {
-        return short;
-    }
-    if wide(supply) < sum {
-        return task;
-    }
-    0
-}
-
-// The first task that is refused by 3 or 4, or else the first at which the memory exceeds the supply. One pass for
-// both, as each function that goes through the tasks copies them.
+// The first task that is refused by 3 or 4, or else the first at which the memory exceeds the supply. One function for
+// both, as each that goes through the tasks copies them.
 fn of_tasks(list: TaskList, supply: u32) -> Finding
     requires { ⌜ list .count ≤ 16 ⌝ }
     ensures { λ r. ⌜ Finds (firstFound (ofTask (list .tasks)) (list .count) orElse firstFound (ofMemory (list .tasks) supply) (list .count)) r ⌝ }
 {
     let tasks = list.tasks;
-    let mut short = 0;
-    let mut sum: u64 = 0;
     let mut i = 0;
     while i < list.count {
         let t = tasks[i];
@@ -127,17 +110,22 @@ fn of_tasks(list: TaskList, supply: u32) -> Finding
         if found.number != 0 {
             return found;
         }
-        sum += wide(t.memory);
-        short = of_sum(short, supply, sum, i + 1);
         i += 1;
     }
-    if short == 0 {
-        return Finding { number: 0, task: 0 };
+    let mut sum: u64 = 0;
+    let mut j = 0;
+    while j < list.count {
+        let t = tasks[j];
+        sum += wide(t.memory);
+        if wide(supply) < sum {
+            return Finding {
+                number: 5,
+                task: j + 1,
+            };
+        }
+        j += 1;
     }
-    Finding {
-        number: 5,
-        task: short,
-    }
+    Finding { number: 0, task: 0 }
 }
 
 // The multiple of the periods with its job count, and the first task that takes it above 4,096.

@@ -26,20 +26,20 @@ use Rattle.verdict.specs.Table.{fitted, tabled, Built}
 use Rattle.verdict.specs.Settling.{Concluded, Settled}
 
 abbrev pub shown : (l : TaskList) (cycle : ℕ) → Bounded l → cycle ≡ cycleOf l → (order periods dues runtimes : List ℕ) → Shows (planOf l) order periods dues runtimes → Shown (l .count) cycle order periods dues runtimes
-shown l cycle B C order periods dues runtimes W = record { list = l; bounded = B; count-is = refl; cycle-is = C; shows = W }
+shown l cycle bounded cycle-is order periods dues runtimes W = record { list = l; bounded = bounded; count-is = refl; cycle-is = cycle-is; shows = W }
 
 -- ---- the table of a list that keeps all bounds
-module _ (l : TaskList) (cycle jobs : ℕ) (r : Verdict) (A : r ≡ judged (planOf l) cycle jobs (lateness (planOf l) cycle)) where
+module _ (l : TaskList) (cycle jobs : ℕ) (r : Verdict) (is-judged : r ≡ judged (planOf l) cycle jobs (lateness (planOf l) cycle)) where
   abbrev late-task : ℕ
   late-task = lateness (planOf l) cycle .task
 
   is-accepted : late-task ≡ 0 → r ≡ Accepted cycle jobs (suc (tightest (planOf l) (planOf l .count))) (pos (margin (planOf l) (tightest (planOf l) (planOf l .count))))
   unfolding judged
-  is-accepted none = A ∙ choose-yes _ _ _ (eq-eqb late-task 0 none)
+  is-accepted none = is-judged ∙ choose-yes _ _ _ (eq-eqb late-task 0 none)
 
   is-refused : (late-task ≡ 0 → ⊥) → r ≡ Refused 7 late-task (subℕ 0 (lateness (planOf l) cycle .short))
   unfolding judged
-  is-refused some = A ∙ choose-no _ _ _ (ne-eqb late-task 0 some)
+  is-refused some = is-judged ∙ choose-no _ _ _ (ne-eqb late-task 0 some)
 
   accepted-on-time : (c j task : ℕ) (m : ℤ) → r ≡ Accepted c j task m → late-task ≡ 0
   accepted-on-time c j task m q =
@@ -51,12 +51,12 @@ module _ (l : TaskList) (cycle jobs : ℕ) (r : Verdict) (A : r ≡ judged (plan
   module _ (old : List ℕ) where
     pub settled-refused : (number task : ℕ) (m : ℤ) → r ≡ Refused number task m → Settled l cycle jobs old old r
     unfolding fitted tabled
-    settled-refused number task m q = record { answer = A; bytes = ap (λ (x : Verdict). tabled l (fitted x (length old)) old) (sym q) }
+    settled-refused number task m q = record { answer = is-judged; bytes = ap (λ (x : Verdict). tabled l (fitted x (length old)) old) (sym q) }
 
     pub settled-short : length old < cycle → Settled l cycle jobs old old r
     unfolding fitted tabled
     settled-short h = record {
-      answer = A;
+      answer = is-judged;
       bytes =
           ⊎-elim
           (λ (none : late-task ≡ 0).
@@ -69,13 +69,13 @@ module _ (l : TaskList) (cycle jobs : ℕ) (r : Verdict) (A : r ≡ judged (plan
     pub settled-whole : (c j task : ℕ) (m : ℤ) → r ≡ Accepted c j task m → cycle ≤ length old → (room : ℕ) (entries new : List ℕ) → cycle ≤ room → Concluded l cycle jobs room entries r
         → new ≡ overwrite (at entries) cycle old → Settled l cycle jobs old new r
     unfolding fitted tabled
-    settled-whole c j task m q h room entries new enough C e =
+    settled-whole c j task m q h room entries new enough cycle-is e =
         let none = accepted-on-time c j task m q in
         record {
-          answer = A;
+          answer = is-judged;
           bytes =
               e
-              ∙ overwrite-same (at entries) (table (planOf l)) old cycle (C .entries none enough)
+              ∙ overwrite-same (at entries) (table (planOf l)) old cycle (cycle-is .entries none enough)
               ∙ ap (λ (x : Verdict). tabled l x old) (sym (choose-no _ _ _ (le-ltb (length old) cycle h)))
               ∙ ap (λ (x : Verdict). tabled l (fitted x (length old)) old) (sym (is-accepted none));
         }

@@ -50,8 +50,8 @@ module _ (n cycle : ℕ) (order periods dues runtimes : List ℕ) (S : Shown n c
   abbrev P : Plan
   P = planOf l
 
-  abbrev B : Bounded l
-  B = S .bounded
+  abbrev bounds : Bounded l
+  bounds = S .bounded
 
   abbrev C : cycle ≡ cycleOf l
   C = S .cycle-is
@@ -60,7 +60,7 @@ module _ (n cycle : ℕ) (order periods dues runtimes : List ℕ) (S : Shown n c
   W = S .shows
 
   monotonic : Monotonic P
-  monotonic = plan-monotonic l (B .supply) (B .keeps)
+  monotonic = plan-monotonic l (bounds .supply) (bounds .keeps)
 
   sound : Sound P
   sound = monotonic .sound
@@ -70,25 +70,25 @@ module _ (n cycle : ℕ) (order periods dues runtimes : List ℕ) (S : Shown n c
   count-is = S .count-is
 
   pub few : n ≤ 16
-  few = omega (arith, S .count-is, B .keeps .few)
+  few = omega (arith, S .count-is, bounds .keeps .few)
 
   pub order-small : (k : ℕ) → k < n → at order k < 16
   order-small k lk = omega (arith, W .ranked 0 .below k (omega (arith, count-is)), count-is, few)
 
   period-small : (i : ℕ) → i < P .count → P .period i ≤ 4096
   unfolding planOf
-  period-small i li = B .keeps .fits i li .period-to
+  period-small i li = bounds .keeps .fits i li .period-to
 
   divides : (i : ℕ) → i < P .count → P .period i ∣ cycle
   unfolding planOf
-  divides i li = subst (λ (x : ℕ). P .period i ∣ x) (sym C) (period-divides-cycle l (B .supply) (B .keeps) i li)
+  divides i li = subst (λ (x : ℕ). P .period i ∣ x) (sym C) (period-divides-cycle l (bounds .supply) (bounds .keeps) i li)
 
   below : (k : ℕ) → k < P .count → at order k < P .count
   below = W .ranked 0 .below
 
   some : 0 < P .count
   unfolding planOf
-  some = B .keeps .some
+  some = bounds .keeps .some
 
   -- every period ends with the cycle, so there is an event by then
   event-in-cycle : (i t : ℕ) → i < P .count → t < cycle → nextEvent P i t ≤ cycle
@@ -155,7 +155,7 @@ module _ (n cycle : ℕ) (order periods dues runtimes : List ℕ) (S : Shown n c
         let lk : k < P .count = omega (arith, count-is) in
         let i = at order k in
         let li = below k lk in
-        let c = B .keeps .cycle-within in
+        let c = bounds .keeps .cycle-within in
         record {
           event-some = omega (arith, so-far .quiet k lk, so-far .ahead);
           release-small = omega (arith, so-far .holds .release-is k lk, W .period-is k lk, release-age P sound i li t, period-small i li, C);
@@ -177,15 +177,15 @@ module _ (n cycle : ℕ) (order periods dues runtimes : List ℕ) (S : Shown n c
     unfolding s
     as-many = omega (arith, so-far .ahead)
 
-    module _ (lacks₁ ends₁ table₂ : List ℕ) (G₀ : HandedOut order dues lacks₀ ends table₁ n t next lacks₁ ends₁ table₂) (releases₂ events₂ lacks₂ : List ℕ) (r : Turned) where
-      G : HandedOut order dues lacks₀ ends table₁ (P .count) t next lacks₁ ends₁ table₂
-      G = rw count-is at G₀
+    module _ (lacks₁ ends₁ table₂ : List ℕ) (handed₀ : HandedOut order dues lacks₀ ends table₁ n t next lacks₁ ends₁ table₂) (releases₂ events₂ lacks₂ : List ℕ) (r : Turned) where
+      handed : HandedOut order dues lacks₀ ends table₁ (P .count) t next lacks₁ ends₁ table₂
+      handed = rw count-is at handed₀
 
       -- The first that is late ends the walk.
       stopped : OneLate order (λ k. missingOf (at events k) (at lacks₁ k) next) n (r .late) → (r .late .task ≡ 0 → ⊥) → Walked P cycle order room ends₁ table₂ (r .late)
       stopped L nz =
           let e : next + (cycle - next) ≡ cycle = omega (arith, so-far .next-within lt) in
-          let so = one-late-then P sound order periods dues runtimes W t s lacks₀ releases events ends (so-far .holds) on-time-here next is-next (so-far .quiet) lacks₁ ends₁ (rw as-many at (G .lacks-are)) (rw as-many at (G .ends-are)) (r .late) (rw count-is at L) in
+          let so = one-late-then P sound order periods dues runtimes W t s lacks₀ releases events ends (so-far .holds) on-time-here next is-next (so-far .quiet) lacks₁ ends₁ (rw as-many at (handed .lacks-are)) (rw as-many at (handed .ends-are)) (r .late) (rw count-is at L) in
           record {
             late-is = so ∙ sym (late-stays P next (cycle - next) (λ z. nz (ap (λ (x : Late). x .task) so ∙ z))) ∙ ap (lateness P) e;
             end-is = λ z. absurd (nz z);
@@ -198,7 +198,7 @@ module _ (n cycle : ℕ) (order periods dues runtimes : List ℕ) (S : Shown n c
 
         then-holds : Holds P next order lacks₂ releases₂ events₂ ends₁
         then-holds =
-            holds-next P sound order periods dues runtimes W t s lacks₀ releases events ends (so-far .holds) on-time-here next is-next (so-far .quiet) lacks₁ ends₁ (rw as-many at (G .lacks-are)) (rw as-many at (G .ends-are)) (T .none-late)
+            holds-next P sound order periods dues runtimes W t s lacks₀ releases events ends (so-far .holds) on-time-here next is-next (so-far .quiet) lacks₁ ends₁ (rw as-many at (handed .lacks-are)) (rw as-many at (handed .ends-are)) (T .none-late)
             releases₂ events₂ lacks₂ (T .events-are) (T .releases-are) (T .lacks-are)
 
         event-then : (k : ℕ) → k < P .count → eventThen periods dues runtimes releases events lacks₁ next k ≡ nextEvent P (at order k) next
@@ -210,7 +210,7 @@ module _ (n cycle : ℕ) (order periods dues runtimes : List ℕ) (S : Shown n c
         entries-then : cycle ≤ room → Tabled (table P) next room table₂
         entries-then enough =
             let e = so-far .entries-are enough in
-            let w = G .writes (omega (arith, e .long, so-far .next-within lt)) (e .blank) in
+            let w = handed .writes (omega (arith, e .long, so-far .next-within lt)) (e .blank) in
             record {
               long = w .long ∙ e .long;
               written = λ x l.
@@ -229,8 +229,8 @@ module _ (n cycle : ℕ) (order periods dues runtimes : List ℕ) (S : Shown n c
         unfolding planOf
         went-on = record {
           holds = then-holds;
-          on-time = none-late-then P sound order periods dues runtimes W t s lacks₀ releases events ends (so-far .holds) on-time-here next is-next (so-far .quiet) lacks₁ ends₁ (rw as-many at (G .lacks-are)) (rw as-many at (G .ends-are)) (T .none-late);
-          ahead = T .next-is .greatest (suc next) (omega (arith, so-far .next-within lt, C, B .keeps .cycle-within)) (λ k lk. omega (arith, event-then k lk, event-later P sound (at order k) (below k lk) next));
+          on-time = none-late-then P sound order periods dues runtimes W t s lacks₀ releases events ends (so-far .holds) on-time-here next is-next (so-far .quiet) lacks₁ ends₁ (rw as-many at (handed .lacks-are)) (rw as-many at (handed .ends-are)) (T .none-late);
+          ahead = T .next-is .greatest (suc next) (omega (arith, so-far .next-within lt, C, bounds .keeps .cycle-within)) (λ k lk. omega (arith, event-then k lk, event-later P sound (at order k) (below k lk) next));
           quiet = λ k lk. omega (arith, T .next-is .no-later k lk, event-then k lk, then-holds .event-is k lk);
           within = so-far .next-within lt;
           next-within = λ q. omega (arith, T .next-is .no-later 0 some, event-then 0 some, event-in-cycle (at order 0) next (below 0 some) q);
@@ -267,7 +267,7 @@ module _ (n cycle : ℕ) (order periods dues runtimes : List ℕ) (S : Shown n c
         let task : lateness P cycle .task ≡ suc (late .task - 1) = sym task-is ∙ omega arith in
         let m = late-tells P sound cycle (late .task - 1) task in
         let lacks = missed-lacks P (m .slice) (late .task - 1) (m .missed) in
-        let fits = B .keeps .fits (late .task - 1) (lacks .0) in
+        let fits = bounds .keeps .fits (late .task - 1) (lacks .0) in
         omega (arith, ap (λ (x : Late). x .short) (L .late-is), m .lacks, missing-is P (m .slice) (late .task - 1) (lacks .1) .1, fits .runtime-to, fits .period-to)
 
     pub concluded-late : (jobs : ℕ) (z : ℤ) → (late .task ≡ 0 → ⊥) → z ≡ subℕ 0 (late .short) → Concluded l cycle jobs room table₁ (Refused 7 (late .task) z)
@@ -280,7 +280,7 @@ module _ (n cycle : ℕ) (order periods dues runtimes : List ℕ) (S : Shown n c
     module _ (none : late .task ≡ 0) where
       due-in-cycle : (i : ℕ) → i < P .count → P .due i ≤ cycle
       unfolding planOf
-      due-in-cycle i li = omega (arith, S .cycle-is, period-within-cycle l (B .supply) (B .keeps) i li)
+      due-in-cycle i li = omega (arith, S .cycle-is, period-within-cycle l (bounds .supply) (bounds .keeps) i li)
 
       pub ends-by-dues : (k : ℕ) → k < n → at ends k ≤ at dues k
       ends-by-dues k small = let lk : k < P .count = omega (arith, count-is) in omega (arith, L .end-is none k lk, end-within P (at order k) cycle, W .due-is k lk)
@@ -295,23 +295,23 @@ module _ (n cycle : ℕ) (order periods dues runtimes : List ℕ) (S : Shown n c
           ap₂ (λ (x y : ℕ). x - y) (W .due-is k lk)
           (L .end-is none k lk ∙ end-is-first P sound (at order k) cycle (below k lk) (first-on-time (at order k) (below k lk)) (due-in-cycle (at order k) (below k lk)))
 
-      module _ (best : ℕ) (F₀ : TightestAt (marginAt dues ends) n best) where
-        F : TightestAt (marginAt dues ends) (P .count) best
-        F = rw count-is at F₀
+      module _ (best : ℕ) (found₀ : TightestAt (marginAt dues ends) n best) where
+        found : TightestAt (marginAt dues ends) (P .count) best
+        found = rw count-is at found₀
 
         -- the first place with the smallest margin is the tightest task's
         is-tightest : Tightest P (P .count) (at order best)
         is-tightest = record {
-          is-below = below best (F .below);
+          is-below = below best (found .below);
           none-tighter = λ j lj.
               let p = W .ranked 0 .places j lj in
-              let mine = margin-is best (F .below) in
+              let mine = margin-is best (found .below) in
               let other : marginAt dues ends (p .place) ≡ margin P j = margin-is (p .place) (p .below) ∙ ap (margin P) (p .is) in
-              not-tighter P j (at order best) (omega (arith, F .smallest (p .place) (p .below)))
+              not-tighter P j (at order best) (omega (arith, found .smallest (p .place) (p .below)))
               (λ same.
               ⊎-elim
               (λ (a : best ≤ p .place). rw (← p .is) (behind-not-before (keyIn P 0) (P .count) order (W .ranked 0) best (p .place) a (p .below)))
-              (λ (b : p .place < best). absurd (omega (arith, F .first (p .place) b)))
+              (λ (b : p .place < best). absurd (omega (arith, found .first (p .place) b)))
               (le-or-lt best (p .place)));
         }
 
@@ -319,14 +319,14 @@ module _ (n cycle : ℕ) (order periods dues runtimes : List ℕ) (S : Shown n c
         best-is = tightest-only P (at order best) (tightest P (P .count)) is-tightest (tightest-law P (P .count) some (omega arith))
 
         pub margin-within : at dues best - at ends best ≤ 4096
-        margin-within = omega (arith, W .due-is best (F .below), sound .due-within (at order best) (below best (F .below)), period-small (at order best) (below best (F .below)))
+        margin-within = omega (arith, W .due-is best (found .below), sound .due-within (at order best) (below best (found .below)), period-small (at order best) (below best (found .below)))
 
         pub concluded-accepted : (jobs : ℕ) (z : ℤ) → z ≡ pos (at dues best - at ends best) → Concluded l cycle jobs room table₁ (Accepted cycle jobs (at order best + 1) z)
         unfolding judged
         concluded-accepted jobs z q = record {
           answer =
               rw (← L .late-is, add-one, q)
-              (ap₂ (λ (i m : ℕ). Accepted cycle jobs (suc i) (pos m)) best-is (margin-is best (F .below) ∙ ap (margin P) best-is)
+              (ap₂ (λ (i m : ℕ). Accepted cycle jobs (suc i) (pos m)) best-is (margin-is best (found .below) ∙ ap (margin P) best-is)
               ∙ sym (choose-yes _ _ _ (eq-eqb (late .task) 0 none)));
           entries = λ _. L .entries-are none;
         }

@@ -25,14 +25,14 @@ pub filled-none : (table : List ℕ) (a entry : ℕ) → Filled table a a entry 
 filled-none table a entry = record { long = refl; filled = λ x l u. absurd (omega arith); elsewhere = λ x o. refl }
 
 pub filled-more : (table : List ℕ) (a b entry : ℕ) (table′ : List ℕ) → Filled table a b entry table′ → a ≤ b → b < length table → Filled table a (b + 1) entry (set table′ b entry)
-filled-more table a b entry table′ F le l = record {
-  long = length-set table′ b entry ∙ F .long;
+filled-more table a b entry table′ filled le l = record {
+  long = length-set table′ b entry ∙ filled .long;
   filled = λ x la lb.
       ⊎-elim
-      (λ (e : x ≡ b). ap (at (set table′ b entry)) e ∙ getD-set-same table′ b entry 0 (omega (arith, F .long)))
-      (λ (ne : x ≡ b → ⊥). getD-set-other table′ b x entry 0 ne ∙ F .filled x la (omega arith))
+      (λ (e : x ≡ b). ap (at (set table′ b entry)) e ∙ getD-set-same table′ b entry 0 (omega (arith, filled .long)))
+      (λ (ne : x ≡ b → ⊥). getD-set-other table′ b x entry 0 ne ∙ filled .filled x la (omega arith))
       (eq-or-ne x b);
-  elsewhere = λ x o. getD-set-other table′ b x entry 0 (λ e. ⊎-elim (λ (u : x < a). omega arith) (λ (u : b + 1 ≤ x). omega arith) o) ∙ F .elsewhere x (⊎-elim (λ (u : x < a). inl u) (λ (u : b + 1 ≤ x). inr (omega arith)) o);
+  elsewhere = λ x o. getD-set-other table′ b x entry 0 (λ e. ⊎-elim (λ (u : x < a). omega arith) (λ (u : b + 1 ≤ x). omega arith) o) ∙ filled .elsewhere x (⊎-elim (λ (u : x < a). inl u) (λ (u : b + 1 ≤ x). inr (omega arith)) o);
 }
 
 -- ---- a turn
@@ -44,19 +44,19 @@ module _ (order dues lacks ends table : List ℕ) (k t from next : ℕ) where
   pub no-turn : at lacks k ≡ 0 → HandedOne order dues lacks ends table k t from next lacks ends table from
   no-turn z = record { to-is = omega arith; lacks-are = as-it-was lacks k _ (omega arith); ends-are = end-kept from (inr (omega arith)); writes = λ _. filled-none table from _ }
 
-  module _ (take : ℕ) (is : take ≡ min (at lacks k) (next - from)) (ahead : from < next) (table′ : List ℕ) (F : from + take ≤ length table → Filled table from (from + take) (at order k + 1) table′) where
+  module _ (take : ℕ) (is : take ≡ min (at lacks k) (next - from)) (ahead : from < next) (table′ : List ℕ) (filled : from + take ≤ length table → Filled table from (from + take) (at order k + 1) table′) where
     lacks-so : set lacks k (at lacks k - take) ≡ set lacks k (at lacks k - min (at lacks k) (next - from))
     lacks-so = ap (λ (x : ℕ). set lacks k (at lacks k - x)) is
 
     pub turn-of-later-job : at dues k ≤ t → HandedOne order dues lacks ends table k t from next (set lacks k (at lacks k - take)) ends table′ (from + take)
-    turn-of-later-job l = record { to-is = ap (λ (x : ℕ). from + x) is; lacks-are = lacks-so; ends-are = end-kept (from + take) (inl l); writes = λ room. F (omega arith) }
+    turn-of-later-job l = record { to-is = ap (λ (x : ℕ). from + x) is; lacks-are = lacks-so; ends-are = end-kept (from + take) (inl l); writes = λ room. filled (omega arith) }
 
     pub turn-of-first-job : t < at dues k → (at lacks k ≡ 0 → ⊥) → HandedOne order dues lacks ends table k t from next (set lacks k (at lacks k - take)) (set ends k (from + take)) table′ (from + take)
     turn-of-first-job l nz = record {
       to-is = ap (λ (x : ℕ). from + x) is;
       lacks-are = lacks-so;
       ends-are = ap (set ends k) (sym (choose-yes _ _ _ (ap₂ _&&_ (lt-ltb t (at dues k) l) (lt-ltb from (from + take) (omega arith)))));
-      writes = λ room. F (omega arith);
+      writes = λ room. filled (omega arith);
     }
 
 -- ---- all turns up to the next event

@@ -104,7 +104,7 @@ module _ (order periods dues runtimes releases events lacks : List ℕ) (n t : �
     lack-same = ap (λ (l : List ℕ). at l k) (H .lacks-are) ∙ overwrite-kept lackOf lacks 0 k k (omega arith)
 
     pub still-fits : Fits (at periods k) (at dues k) (at releases k) (at events k) t → Fits (at periods k) (at dues k) (at releases₁ k) (at events₁ k) t
-    still-fits F = rw (event-same, release-same) F
+    still-fits fits = rw (event-same, release-same) fits
 
     module _ (releases₂ events₂ lacks₂ : List ℕ) (event : ℕ) where
       missing-same : missingOf (at events₁ k) (at lacks₁ k) t ≡ missing k

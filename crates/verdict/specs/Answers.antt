@@ -1,5 +1,5 @@
 -- What a verdict tells of the list: it is refused by its bounds, refused for lateness, or accepted with every job on time.
-use mathlib.Core.Path.{_≡_, refl, sym, ap, ap₂, _∙_}
+use mathlib.Core.Path.{_≡_, refl, subst, sym, ap, ap₂, _∙_}
 use mathlib.Core.Logic.{_⊎_, inl, inr, ⊎-elim, _↔_}
 use Prim.Native.Nat.{ℕ, suc, _-_, _≤_}
 use native.Mathlib.Omega.{arith}
@@ -102,15 +102,6 @@ other : {A : Type 0} {c j t n u : ℕ} {x y : ℤ} → Accepted c j t x ≡ Refu
 other e = let z : _≡_ {A = ℕ} 0 1 = cc in absurd (omega arith)
 
 module _ (l : TaskList) (supply : ℕ) where
-  pub accepted-tells : (cycle jobs task : ℕ) (signed : ℤ) → verdictOf l supply ≡ Accepted cycle jobs task signed → OnTimeAll l supply (Accepted cycle jobs task signed)
-  accepted-tells cycle jobs task signed e =
-      ⊎-elim
-      (λ (h : ByBounds l supply (verdictOf l supply)). other (sym e ∙ h .is))
-      (⊎-elim
-      (λ (h : ForLateness l supply (verdictOf l supply)). other (sym e ∙ h .is))
-      (λ (h : OnTimeAll l supply (verdictOf l supply)). record { keeps = h .keeps; on-time = h .on-time; is = sym e ∙ h .is }))
-      (verdict-tells l supply)
-
   -- The margin is below zero exactly if the list is refused for lateness.
   pub below-zero : (verdictAnswer (verdictOf l supply) .number ≡ 7) ↔ ((n : ℕ) × (verdictAnswer (verdictOf l supply) .margin ≡ negsuc n))
   unfolding verdictAnswer
@@ -134,6 +125,10 @@ module _ (l : TaskList) (supply : ℕ) where
       (λ (h : ForLateness l supply (verdictOf l supply)). absurd (omega (arith, ap (λ (v : Verdict). verdictAnswer v .number) (h .is))))
       (λ (h : OnTimeAll l supply (verdictOf l supply)). h))
       (verdict-tells l supply)
+
+  pub accepted-tells : (cycle jobs task : ℕ) (signed : ℤ) → verdictOf l supply ≡ Accepted cycle jobs task signed → OnTimeAll l supply (Accepted cycle jobs task signed)
+  unfolding verdictAnswer
+  accepted-tells cycle jobs task signed e = subst (OnTimeAll l supply) e (accepted-as (ap (λ (v : Verdict). verdictAnswer v .number) e))
 
   pub refused-not-0 : (number task : ℕ) (margin : ℤ) → verdictOf l supply ≡ Refused number task margin → number ≡ 0 → ⊥
   unfolding verdictAnswer

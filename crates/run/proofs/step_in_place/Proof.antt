@@ -77,30 +77,27 @@ due-of-requires c κs = tt
 element-copy-out-mark-late : tie.Need-element-copy-out-mark-late Inv-loop μ-loop
 element-copy-out-mark-late c = omega (arith, held (c .before .before .before) .count-to)
 
-finishes-requires : tie.Need-finishes-requires Inv-loop μ-loop
-finishes-requires c κs = omega (arith, held (c .before .before .before .before) .count-to)
-
 mark-late-requires : tie.Need-mark-late-requires Inv-loop μ-loop
-mark-late-requires c κs = let C = held (c .before .before .before .before .before) in (omega (arith, C .count-to), C .within _ (c .before .before .before .before .before .loop-test .taken))
+mark-late-requires c κs = let C = held (c .before .before .before .before) in (omega (arith, C .count-to), C .within _ (c .before .before .before .before .loop-test .taken))
 
 renew-used-requires : tie.Need-renew-used-requires Inv-loop μ-loop
-renew-used-requires c κs = omega (arith, held (c .before .before .before .before .before .before .before .before .before) .count-to)
+renew-used-requires c κs = omega (arith, held (c .before .before .before .before .before .before .before .before) .count-to)
 
 renew-ended-requires : tie.Need-renew-ended-requires Inv-loop μ-loop
-renew-ended-requires c κs = omega (arith, held (c .before .before .before .before .before .before .before .before .before .before .before) .count-to)
+renew-ended-requires c κs = omega (arith, held (c .before .before .before .before .before .before .before .before .before .before) .count-to)
 
 add-i : tie.Need-add-i Inv-loop μ-loop
-add-i c = omega (arith, held (c .before .before .before .before .before .before .before .before .before .before .before .before) .count-to)
+add-i c = omega (arith, held (c .before .before .before .before .before .before .before .before .before .before .before) .count-to)
 
 loop-less : tie.Need-loop-less Inv-loop μ-loop
 loop-less c = omega arith
 
 loop-again : tie.Need-loop-again Inv-loop μ-loop
 loop-again c = (
-  c .before .before .before .before .before .before .before .before .before .before .before .before .before .loop .inv .0,
+  c .before .before .before .before .before .before .before .before .before .before .before .before .loop .inv .0,
   omega arith,
-  renewed-next _ _ _ (c .before .before .before .before .before .before .before .before .before .before .before .before .before .loop .inv .2) _ _ _ (release-tested _ _ _ (c .before .before .before .before .before .before .before .before .before .before .before .before .before .loop .inv .2)) (c .before .before .renew-used .ensures) (c .renew-ended .ensures),
-  late-next _ _ _ (c .before .before .before .before .before .before .before .before .before .before .before .before .before .loop .inv .2) _ _ _ _ _ _ _ (c .before .before .before .before .before .before .before .before .before .before .before .before .before .loop .inv .3) (deadline-tested _ _ _ (c .before .before .before .before .before .before .before .before .before .before .before .before .before .loop .inv .2) _ (c .before .before .before .before .before .before .before .before .before .due-of .ensures)) (c .before .before .before .before .before .before .before .finishes .ensures) (c .before .before .before .before .before .before .mark-late .ensures),
+  renewed-next _ _ _ (c .before .before .before .before .before .before .before .before .before .before .before .before .loop .inv .2) _ _ _ (release-tested _ _ _ (c .before .before .before .before .before .before .before .before .before .before .before .before .loop .inv .2)) (c .before .before .renew-used .ensures) (c .renew-ended .ensures),
+  late-next _ _ _ (c .before .before .before .before .before .before .before .before .before .before .before .before .loop .inv .2) _ _ _ _ _ _ (c .before .before .before .before .before .before .before .before .before .before .before .before .loop .inv .3) (deadline-tested _ _ _ (c .before .before .before .before .before .before .before .before .before .before .before .before .loop .inv .2) _ (c .before .before .before .before .before .before .before .before .due-of .ensures)) (c .before .before .before .before .before .before .mark-late .ensures),
 )
 
 same-length : tie.Need-same-length Inv-loop μ-loop
@@ -131,7 +128,6 @@ step-in-place-spec =
     add-age
     due-of-requires
     element-copy-out-mark-late
-    finishes-requires
     mark-late-requires
     renew-used-requires
     renew-ended-requires

@@ -31,16 +31,18 @@ unfolding multipleOf firstFound none refusal
 loop-holds c = (omega arith, omega arith, refl, refl)
 
 returns : tie.Need-returns Inv-loop μ-loop Inv-loop2 μ-loop2
-unfolding taskAt noTask
+unfolding taskAt noTask ofCycle
 returns c = record {
-  over = finds _ _ (found-here _ _ _ _ (c .before .before .before .if1 .taken) (c .before .before .before .before .before .loop .inv .3) (exceeds _ _ _ _ (c .before .before .before .before .before .loop .inv .2) (c .before .lcm .ensures) (c .if2 .taken)) (λ z. omega arith));
+  over = finds _ _ (found-here _ _ _ _ (c .before .before .before .if1 .taken) (c .before .before .before .before .before .loop .inv .3) (exceeds 4096 _ 5 _ _ (one-more-multiple _ _ _ _ (c .before .before .before .before .before .loop .inv .2) (c .before .lcm .ensures)) (c .if2 .taken)) (λ z. omega arith));
   multiple-is = λ z. absurd (omega arith);
   jobs-is = λ z. absurd (omega arith);
 }
 
 loop-again : tie.Need-loop-again Inv-loop μ-loop Inv-loop2 μ-loop2
-unfolding taskAt noTask
-loop-again c = (omega arith, c .if2 .left, rw (add-one _) (one-more-multiple _ _ _ _ (c .before .before .before .before .before .loop .inv .2) (c .before .lcm .ensures)), nothing-here _ _ (c .before .before .before .before .before .loop .inv .3) (keeps-to _ _ _ _ (c .before .before .before .before .before .loop .inv .2) (c .before .lcm .ensures) (c .if2 .left)))
+unfolding taskAt noTask ofCycle
+loop-again c =
+    let next = one-more-multiple _ _ _ _ (c .before .before .before .before .before .loop .inv .2) (c .before .lcm .ensures) in
+    (omega arith, c .if2 .left, rw (add-one _) next, nothing-here _ _ (c .before .before .before .before .before .loop .inv .3) (keeps-to 4096 _ 5 _ _ next (c .if2 .left)))
 
 loop2-holds : tie.Need-loop2-holds Inv-loop μ-loop Inv-loop2 μ-loop2
 unfolding jobSum sum

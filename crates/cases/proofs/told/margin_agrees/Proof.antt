@@ -10,8 +10,8 @@ use Rattle.cases.proofs.told.margin_agrees.Tie as tie
 
 returns : tie.Need-returns
 returns c =
-    let F = c .before .fits in
-    (λ _. same-margin (c .before .args .expected) (c .before .args .found) (F .expected) (F .found) (c .if1 .taken), λ _. refl)
+    let fit = c .before .fits in
+    (λ _. same-margin (c .before .args .expected) (c .before .args .found) (fit .expected) (fit .found) (c .if1 .taken), λ _. refl)
 
 returns-2 : tie.Need-returns-2
 returns-2 c =

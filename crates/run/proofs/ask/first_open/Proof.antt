@@ -1,5 +1,5 @@
 -- `run::ask::first_open` meets its contract.
-use Prim.Native.Nat.{_≤_, _-_}
+use Prim.Native.Nat.{_+_, _-_, _≤_}
 use mathlib.Core.Path.{_≡_, refl}
 use mathlib.Core.Bool.{false}
 use native.Mathlib.Omega.{arith}
@@ -22,20 +22,23 @@ loop-holds : tie.Need-loop-holds Inv-loop μ-loop
 unfolding first
 loop-holds c = (omega arith, omega arith, refl)
 
-element-copy-out-better : tie.Need-element-copy-out-better Inv-loop μ-loop
-element-copy-out-better c = omega (arith, c .before .before .pre)
-
-better-requires : tie.Need-better-requires Inv-loop μ-loop
-better-requires c κs = (omega (arith, c .before .before .before .pre), omega (arith, c .before .before .before .pre))
+element-copy-out-is-ended : tie.Need-element-copy-out-is-ended Inv-loop μ-loop
+element-copy-out-is-ended c = omega (arith, c .before .before .pre)
 
 add-i : tie.Need-add-i Inv-loop μ-loop
-add-i c = omega (arith, c .before .before .before .before .pre)
+add-i c = omega (arith, c .before .before .before .pre)
+
+better-requires : tie.Need-better-requires Inv-loop μ-loop
+better-requires c κs = (omega arith, omega (arith, c .before .before .before .pre), omega (arith, c .before .before .before .pre))
 
 loop-less : tie.Need-loop-less Inv-loop μ-loop
 loop-less c = omega (arith, c .before .before .before .before .pre)
 
 loop-again : tie.Need-loop-again Inv-loop μ-loop
-loop-again c = (omega arith, omega (arith, c .better .ensures, scanned-to (at (c .before .before .before .before .args .periods .now)) (getD (c .before .before .before .before .args .ended .now) (c .before .before .before .loop .i) false) (c .before .before .before .loop .i) (c .before .before .before .loop .best) (c .before .before .before .loop .inv .1)), one-more-scanned _ _ _ _ _ _ refl (c .before .before .before .loop .inv .2) (c .better .ensures))
+loop-again c =
+    let place : c .before .before .before .loop .i + 1 - 1 ≡ c .before .before .before .loop .i = omega arith in
+    let told = rw place at (c .better .ensures) in
+    (omega arith, omega (arith, told, scanned-to (at (c .before .before .before .before .args .periods .now)) (getD (c .before .before .before .before .args .ended .now) (c .before .before .before .loop .i) false) (c .before .before .before .loop .i) (c .before .before .before .loop .best) (c .before .before .before .loop .inv .1)), one-more-scanned _ _ _ _ _ _ refl (c .before .before .before .loop .inv .2) told)
 
 returns : tie.Need-returns Inv-loop μ-loop
 unfolding openFirst
@@ -49,9 +52,9 @@ first-open-spec =
     Inv-loop
     μ-loop
     loop-holds
-    element-copy-out-better
-    better-requires
+    element-copy-out-is-ended
     add-i
+    better-requires
     loop-less
     loop-again
     returns)

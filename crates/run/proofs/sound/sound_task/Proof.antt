@@ -1,7 +1,9 @@
 -- `run::sound::sound_task` meets its contract: each way out is decided by the tests before it.
 use mathlib.Core.Path.{_≡_, sym, _∙_}
-use mathlib.Core.Bool.{true}
-use borrow.Author.Tests.{not-true, not-false, eq-eqb, ne-eqb, le-leb, lt-leb}
+use Prim.Native.Nat.{_≤_}
+use mathlib.Core.Bool.{true, or-true, or-false}
+use native.Mathlib.Omega.{arith}
+use borrow.Author.Tests.{not-true, not-false, eq-eqb, ne-eqb, le-leb, lt-leb, lt-ltb, le-ltb}
 use Rattle.basis.specs.Choose.{within, within-tells}
 use Rattle.run.specs.State.{soundTask}
 use Rattle.run.proofs.sound.sound_task.Statement.{statement}
@@ -39,17 +41,18 @@ returns-3 c =
 returns-4 : tie.Need-returns-4
 unfolding soundTask
 returns-4 c =
-    rw (period-fits (c .before .before .before .before), eq-eqb _ _ (c .before .before .before .if2 .left), runtime-fits (c .before), lt-leb _ _ (c .if4 .taken))
+    let within : c .before .before .before .before .before .before .args .used ≤ c .before .before .before .before .before .before .args .runtime = omega arith in
+    rw (period-fits (c .before .before .before .before), eq-eqb _ _ (c .before .before .before .if2 .left), runtime-fits (c .before), le-leb _ _ within, lt-ltb _ _ (c .if4 .taken)) (sym (or-true (c .before .before .before .before .before .before .args .ended)))
 
 returns-5 : tie.Need-returns-5
 unfolding soundTask
 returns-5 c =
-    rw (period-fits (c .before .before .before .before .before), eq-eqb _ _ (c .before .before .before .before .if2 .left), runtime-fits (c .before .before), le-leb _ _ (c .before .if4 .left), c .if5 .taken)
+    rw (period-fits (c .before .before .before .before .before), eq-eqb _ _ (c .before .before .before .before .if2 .left), runtime-fits (c .before .before), lt-leb _ _ (c .if5 .taken))
 
 returns-6 : tie.Need-returns-6
 unfolding soundTask
 returns-6 c =
-    rw (period-fits (c .before .before .before .before .before), eq-eqb _ _ (c .before .before .before .before .if2 .left), runtime-fits (c .before .before), le-leb _ _ (c .before .if4 .left), c .if5 .left)
+    rw (period-fits (c .before .before .before .before .before), eq-eqb _ _ (c .before .before .before .before .if2 .left), runtime-fits (c .before .before), le-leb _ _ (c .if5 .left), le-ltb _ _ (c .before .if4 .left)) (sym (or-false (c .before .before .before .before .before .before .before .args .ended)))
 
 pub sound-task-spec : {M : Type 1} → statement M
 sound-task-spec =
