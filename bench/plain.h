@@ -15,12 +15,15 @@ struct task {
     u32 period, runtime, memory;
 };
 
-// A verdict or a start: refusal number (0: accepted), margin, cycle, job count and task.
+// A verdict or a start: refusal number (0: accepted), margin, cycle, job count, for refusal 6 the multiple reached before the
+// task and its period, and task.
 struct answer {
     u32 number;
     i32 margin;
     u32 cycle;
     u32 jobs;
+    u32 reached;
+    u32 period;
     usize task;
 };
 

@@ -15,7 +15,9 @@ from model import CLOCK_ROUND, FILLING, LONGEST, NONE_NAMED, TABLE
 from model import Place, State, Task, bare, rounded_up
 
 SEED = 0x0B5E55ED51ACE5
-DRIVES_SEED = 0x0D21FE5EED5  # their own, so that what stands before them stays as it is
+# Their own seeds, so that what stands beside them stays as it is.
+CLASHES_SEED = 0x0C1A54E55EED
+DRIVES_SEED = 0x0D21FE5EED5
 STEPS_WANTED = 202000  # accepted steps in all
 
 # Record tags.
@@ -29,7 +31,8 @@ COUNTED = {
     "entry": ENTRY, "refusal": REFUSAL, "logged": LOGGED, "drive": DRIVE,
 }
 
-MAGIC = b"SLICES02"
+MAGIC = b"SLICES03"
+ANSWER = "BBiIIII"  # the numbers of model.Answer
 SHORT_LOG = 64  # a lent log up to this long is part of every step's checksum
 MOST_TABLE, MOST_LOG, MOST_LIST = 4200, 66000, 272
 MOST_NEEDS = 4200  # and ends
@@ -105,8 +108,11 @@ class Cases:
         for task in tasks:
             self.out += struct.pack("<III", *task)
         answer = model.verdict(self.tasks, supply)
-        self.out += struct.pack("<BBiII", *answer)
+        self.out += struct.pack("<" + ANSWER, *answer)
         self.count("list", answer.refusal)
+        if answer.reached:
+            self.counts["clash at", answer.task] += 1
+            self.counts["clash of several"] += all(task.period != answer.reached for task in tasks)
         return answer
 
     def table_fill(self, length, fill):
@@ -134,7 +140,7 @@ class Cases:
         before = bytes(self.table)
         answer = model.build(self.tasks, self.supply, self.table)
         assert self.table[answer.cycle :] == before[answer.cycle :]
-        self.put(BUILD, "BBiIII", *answer, checksum(self.table))
+        self.put(BUILD, ANSWER + "I", *answer, checksum(self.table))
         self.count("build", answer.refusal)
         return answer
 
@@ -159,7 +165,7 @@ class Cases:
         assert self.log[answer.jobs :] == before[answer.jobs :]
         self.put(START, "BI", mode, clock)
         hashes = checksum(self.state.to_bytes()), checksum(self.log)
-        self.out += struct.pack("<BBiIIII", *answer, *hashes)
+        self.out += struct.pack("<" + ANSWER + "II", *answer, *hashes)
         self.count("start", answer.refusal)
         if not answer.refusal:
             self.counts["started in mode", mode] += 1
@@ -226,7 +232,7 @@ class Cases:
             self.tasks, self.supply, mode, clock, needs, self.table, self.log, ends
         )
         self.put(DRIVE, "BII%dII" % len(needs), mode, clock, len(needs), *needs, length)
-        self.out += struct.pack("<BBiIIBBiII", *built, *begun)
+        self.out += struct.pack("<" + ANSWER + ANSWER, *built, *begun)
         self.out += struct.pack("<I", checksum(self.state.to_bytes()))
         self.out += self.table + self.log + struct.pack("<%dI" % length, *ends)
         self.count("drive", begun.refusal)
@@ -452,6 +458,33 @@ def random_lists(dice):
         if refusal == 0 and load < cycle < 300 and full < 60:
             full += 1
             yield dice.shuffled(tasks + [Task(cycle, cycle - load, 0)]), 0
+
+
+def clash(dice, place):
+    """A list that clashes at this place; from the third on with a multiple that is no period."""
+    while True:
+        dividing = divisors(dice.pick(MIDDLE + LARGE))[1:-1]
+        periods = [dice.pick(dividing) for _ in range(place - 1)]
+        reached = model.common_multiple(periods)
+        if place == 2 or reached not in periods:
+            break
+    multiples = {t: reached // model.gcd(reached, t) * t for t in range(2, LONGEST + 1)}
+    above = [t for t in multiples if multiples[t] > LONGEST]
+    periods.append(dice.pick([min(above, key=multiples.get), dice.pick(above)]))
+    periods += [dice.between(1, LONGEST) for _ in range(dice.below(17 - place))]
+    share = dice.pick([2, place])
+    return [Task(t, dice.between(1, rounded_up(t, share)), dice.between(1, 9)) for t in periods]
+
+
+def clash_lists(dice):
+    """A clash at each place, the same with memory short there or at the end, and cut before it."""
+    for place in list(range(2, 17)) * 2:
+        tasks = clash(dice, place)
+        total = sum(task.memory for task in tasks)
+        up_to = sum(task.memory for task in tasks[:place])
+        for supply in (total, total - 1, up_to - 1):
+            yield tasks, supply
+        yield tasks[: place - 1], total
 
 
 # Runs
@@ -869,6 +902,9 @@ def drives(cases, dice):
     for tasks, mode in full_size_lists(dice):
         answer = cases.list(tasks, 16)
         whole_drive(cases, dice, mode, answer, some_needs(dice, tasks, answer.cycle))
+    for place in (2, 3, 5, 16):
+        cases.list(clash(dice, place), TOP)
+        drive(cases, dice, dice.below(3), dice.below(100), dice.below(100), [1, 2], dice.below(9))
 
 
 def all_cases():
@@ -888,6 +924,9 @@ def all_cases():
             run_in_modes(cases, dice, answer.cycle, tables)
         elif answer.refusal == 0 and answer.cycle < 1000 and dice.one_in(3):
             run(cases, dice, dice.below(3), True)
+    clashes = Dice(CLASHES_SEED)
+    for tasks, supply in clash_lists(clashes):
+        refused_start(cases, clashes, list_and_builds(cases, clashes, tasks, supply))
     damaged_runs(cases, dice, accepted)
     made_up_runs(cases, dice)
     full_size(cases, dice)
@@ -912,11 +951,11 @@ def all_there(cases):
         ("started in mode", (TABLE, FILLING, NONE_NAMED)), ("accepted in mode", (TABLE, FILLING)),
         ("entry", range(3)), ("refusal", range(7)), ("logged", range(5)),
         ("drive", (0, 3, 4, 5, 6, 7, 12)), ("drive built", (0, 8)),
-        ("driven in mode", (TABLE, FILLING, NONE_NAMED)),
+        ("driven in mode", (TABLE, FILLING, NONE_NAMED)), ("clash at", range(2, 17)),
     ):
         for refusal in refusals:
             assert cases.counts[what, refusal], (what, refusal)
-    assert cases.counts["whole drives"] >= 100
+    assert cases.counts["whole drives"] >= 100 and cases.counts["clash of several"] >= 30
     return cases.counts["list"] >= 2000 and cases.counts["step"] >= 200000
 
 
@@ -937,6 +976,9 @@ def report(cases):
     print("read: entries %d, refusals %d, log bytes %d" % tuple(
         cases.counts[what] for what in ("entry", "refusal", "logged")))
     print("drives to the cycle's end: %d" % cases.counts["whole drives"])
+    places = ["%d: %d" % (n, cases.counts["clash at", n]) for n in range(2, 17)]
+    print("clashes by place %s" % ", ".join(places))
+    print("clashes after a multiple that is no period: %d" % cases.counts["clash of several"])
 
 
 def main(arguments):

@@ -57,7 +57,7 @@ class Replay:
     def read_list(self):
         self.supply, count = self.take("II")
         self.tasks = tuple(model.Task(*self.take("III")) for _ in range(count))
-        self.compare(self.take("BBiII"), tuple(model.verdict(self.tasks, self.supply)))
+        self.compare(self.take(generate.ANSWER), tuple(model.verdict(self.tasks, self.supply)))
         return self.supply, self.tasks
 
     def read_table_fill(self):
@@ -81,7 +81,7 @@ class Replay:
 
     def read_build(self):
         answer = model.build(self.tasks, self.supply, self.table)
-        self.compare(self.take("BBiII"), tuple(answer))
+        self.compare(self.take(generate.ANSWER), tuple(answer))
         self.compare(self.take("I"), (checksum(self.table),))
 
     def read_log_fill(self):
@@ -99,7 +99,7 @@ class Replay:
     def read_start(self):
         mode, clock = self.take("BI")
         answer, self.state = model.start(self.tasks, self.supply, mode, clock, self.log)
-        self.compare(self.take("BBiII"), tuple(answer))
+        self.compare(self.take(generate.ANSWER), tuple(answer))
         self.compare(self.take("I"), (checksum(self.state.to_bytes()),))
         self.compare(self.take("I"), (checksum(self.log),))
         return mode, clock
@@ -150,8 +150,8 @@ class Replay:
         built, begun, self.state = model.drive_lent(
             self.tasks, self.supply, mode, clock, needs, self.table, self.log, ends
         )
-        self.compare(self.take("BBiII"), tuple(built))
-        self.compare(self.take("BBiII"), tuple(begun))
+        self.compare(self.take(generate.ANSWER), tuple(built))
+        self.compare(self.take(generate.ANSWER), tuple(begun))
         self.compare(self.take("I"), (checksum(self.state.to_bytes()),))
         self.compare(self.file.read(len(self.table)), bytes(self.table))
         self.compare(self.file.read(len(self.log)), bytes(self.log))

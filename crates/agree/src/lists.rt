@@ -19,18 +19,27 @@ fn kept_answer(expected: Answer, cycle: u32, jobs: u32) -> Answer {
         margin: expected.margin,
         cycle,
         jobs,
+        reached: 0,
+        period: 0,
     }
 }
 
 fn bounds_answer(bounds: Bounds, expected: Answer) -> Answer {
     match bounds {
         Bounds::Kept { cycle, jobs } => kept_answer(expected, cycle, jobs),
-        Bounds::Broken { number, task } => Answer {
+        Bounds::Broken {
+            number,
+            task,
+            reached,
+            period,
+        } => Answer {
             refusal: number,
             task,
             margin: 0,
             cycle: 0,
             jobs: 0,
+            reached,
+            period,
         },
     }
 }

@@ -52,6 +52,8 @@ fn empty() -> Hand {
             margin: 0,
             cycle: 0,
             jobs: 0,
+            reached: 0,
+            period: 0,
         },
         state: State {
             periods: [0; 16],

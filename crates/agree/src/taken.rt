@@ -68,12 +68,16 @@ pub(crate) fn take_answer() -> Answer {
     let margin = word();
     let cycle = word();
     let jobs = word();
+    let reached = word();
+    let period = word();
     Answer {
         refusal: refusal as u32,
         task: task as usize,
         margin: signed(margin),
         cycle,
         jobs,
+        reached,
+        period,
     }
 }
 
@@ -200,7 +204,7 @@ pub(crate) fn take_last() -> Last {
 pub(crate) fn take_magic() -> bool {
     let mut magic = [0u8; 8];
     io::read_full(STDIN_FILENO, &mut magic);
-    check::same(&magic, b"SLICES02")
+    check::same(&magic, b"SLICES03")
 }
 
 // A record's tag, or one that is none at the end of the input.

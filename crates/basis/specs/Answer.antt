@@ -7,20 +7,27 @@ use native.Mathlib.Omega.{arith}
 use lib.Dec.{eqb}
 use lib.IntN.{ℤ, pos}
 use borrow.Author.Tests.{eq-eqb, ne-eqb}
-use Rattle.basis.specs.Choose.{choose, choose-yes, choose-no, of-choice, eq-or-ne, below-suc}
+use Rattle.basis.specs.Choose.{choose, choose-yes, choose-no, choose-either, of-choice, eq-or-ne, below-suc}
 
 -- The number of refusal, 0 for none; the task that is named (of the program's input, the line); the margin; the cycle and the
--- job count. What an answer does not give is 0.
+-- job count; where two periods clash, the multiple reached and the period that is too much for it. What an answer does not give
+-- is 0.
 pub record Answer : Type 0 where
   pub number : ℕ
   pub task : ℕ
   pub margin : ℤ
   pub cycle : ℕ
   pub jobs : ℕ
+  pub reached : ℕ
+  pub period : ℕ
 
 -- Refused: cycle and job count are 0, and the margin too, except for lateness.
 unfoldable pub refusal : ℕ → ℕ → Answer
-refusal number task = record { number = number; task = task; margin = pos 0; cycle = 0; jobs = 0 }
+refusal number task = record { number = number; task = task; margin = pos 0; cycle = 0; jobs = 0; reached = 0; period = 0 }
+
+-- Refusal 6 alone says why: the multiple reached before the task, and the task's period, which brings it above 4,096.
+unfoldable pub clash : ℕ → ℕ → ℕ → Answer
+clash task reached period = record { number = 6; task = task; margin = pos 0; cycle = 0; jobs = 0; reached = reached; period = period }
 
 unfoldable pub none : Answer
 none = refusal 0 0
@@ -36,14 +43,19 @@ firstFound find zero = none
 firstFound find (suc n) = firstFound find n orElse find n
 
 -- Two answers of the same values are one.
-pub alike : (a b : Answer) → a .number ≡ b .number → a .task ≡ b .task → a .margin ≡ b .margin → a .cycle ≡ b .cycle → a .jobs ≡ b .jobs → a ≡ b
-alike a b n t m c j = λ k. record { number = n k; task = t k; margin = m k; cycle = c k; jobs = j k }
+pub alike : (a b : Answer) → a .number ≡ b .number → a .task ≡ b .task → a .margin ≡ b .margin → a .cycle ≡ b .cycle → a .jobs ≡ b .jobs → a .reached ≡ b .reached → a .period ≡ b .period
+    → a ≡ b
+alike a b n t m c j r p = λ k. record { number = n k; task = t k; margin = m k; cycle = c k; jobs = j k; reached = r k; period = p k }
 
 -- Where a test refuses, or where it lets pass, and no refusal comes of it: what the test was.
+pub passed-by : (b : Bool) (x a : Answer) → (x .number ≡ 0 → ⊥) → (choose b x a .number ≡ 0) ↔ ((b ≡ false) × (a .number ≡ 0))
+unfolding choose
+passed-by true x a some = (λ z. absurd (some z), λ h. absurd (true≢false (h .0)))
+passed-by false x a some = (λ z. (refl, z), λ h. h .1)
+
 pub passed-if : (b : Bool) (n t : ℕ) (a : Answer) → (choose b (refusal (suc n) t) a .number ≡ 0) ↔ ((b ≡ false) × (a .number ≡ 0))
-unfolding refusal choose
-passed-if true n t a = (λ z. absurd (omega arith), λ h. absurd (true≢false (h .0)))
-passed-if false n t a = (λ z. (refl, z), λ h. h .1)
+unfolding refusal
+passed-if b n t a = passed-by b (refusal (suc n) t) a (λ z. omega arith)
 
 pub passed-unless : (b : Bool) (n t : ℕ) → (choose b none (refusal (suc n) t) .number ≡ 0) ↔ (b ≡ true)
 unfolding refusal none choose
@@ -88,6 +100,12 @@ pub number-unless : (t : Bool) (n : ℕ) (b : Answer) → (choose t none (refusa
 unfolding refusal none choose
 number-unless true n b = ap (λ (x : Answer). x .number) (else-found none b refl)
 number-unless false n b = ap (λ (x : Answer). x .number) (else-kept (refusal (suc n) 0) b (λ z. omega arith))
+
+-- What holds of whatever is found, and of nothing, holds of the first that is found.
+pub first-all : (Q : Answer → Type 0) → Q none → (find : ℕ → Answer) → ((i : ℕ) → Q (find i)) → (n : ℕ) → Q (firstFound find n)
+unfolding firstFound _orElse_
+first-all Q q find h zero = q
+first-all Q q find h (suc n) = choose-either Q _ _ _ (h n) (first-all Q q find h n)
 
 module _ (find : ℕ → Answer) where
   pub found-none : (n : ℕ) → firstFound find n .number ≡ 0 → (i : ℕ) → i < n → find i .number ≡ 0

@@ -4,27 +4,30 @@ use mathlib.Core.Bool.{Bool, true, false}
 use mathlib.Core.Logic.{_⊎_, inl, inr, ⊎-elim}
 use Prim.Native.Nat.{ℕ, suc, _<_}
 use native.Mathlib.Omega.{arith}
-use lib.IntN.{ℤ, pos}
 use Rattle.basis.specs.Choose.{choose, choose-yes, choose-no, bool-cases, eq-or-ne}
-use Rattle.basis.specs.Answer.{alike, Answer, refusal, none, _orElse_, firstFound, none-number, else-found, else-kept, found-at, first-is}
+use Rattle.basis.specs.Answer.{Answer, refusal, none, _orElse_, firstFound, none-number, else-found, else-kept, found-at, first-is}
 
--- A rule: the number of its refusal, and when it is broken, naming which task with which margin.
+-- A rule: the number of its refusal, and when it is broken, with which values.
 pub record Rule : Type 1 where
   pub number : ℕ
-  pub broken : ℕ → ℤ → Type 0
+  pub broken : Answer → Type 0
 
--- One that names nobody, with margin 0; and one that names task i, counted from 0, as i + 1.
+-- One that names nobody, all else being 0;
 unfoldable pub rule : ℕ → Type 0 → Rule
-rule number broken = record { number = number; broken = λ task margin. (task ≡ 0) × (margin ≡ pos 0) × broken }
+rule number broken = record { number = number; broken = λ a. (a ≡ refusal number 0) × broken }
 
-unfoldable pub naming : ℕ → (ℕ → Type 0) → Rule
-naming number broken = record { number = number; broken = λ task margin. (i : ℕ) × ((task ≡ suc i) × (margin ≡ pos 0) × broken i) }
+-- one that is broken at a task i, counted from 0, and then says this of it; and one that says nothing but its name, i + 1.
+unfoldable pub saying : ℕ → (ℕ → Answer) → (ℕ → Type 0) → Rule
+saying number says broken = record { number = number; broken = λ a. (i : ℕ) × ((a ≡ says i) × broken i) }
+
+abbrev pub naming : ℕ → (ℕ → Type 0) → Rule
+naming number broken = saying number (λ i. refusal number (suc i)) broken
 
 -- The answer is this rule's refusal: cycle and job count are 0.
 pub record Breaks (r : Rule) (a : Answer) : Type 0 where
   pub number-is : a .number ≡ r .number
   pub not-0 : a .number ≡ 0 → ⊥
-  pub broken : r .broken (a .task) (a .margin)
+  pub broken : r .broken a
   pub cycle-0 : a .cycle ≡ 0
   pub jobs-0 : a .jobs ≡ 0
 
@@ -125,29 +128,35 @@ by-test r t a x passes breaks told = record {
   always = λ b h. ⊎-elim (λ (breaks : Breaks r b). choose-yes t a x (told b breaks .0) ∙ told b breaks .1) (λ z. absurd (z .1)) h;
 }
 
--- An answer that refuses is told by its values.
-refusal-is : (a : Answer) (number task : ℕ) → a .number ≡ number → a .task ≡ task → a .margin ≡ pos 0 → a .cycle ≡ 0 → a .jobs ≡ 0 → refusal number task ≡ a
+-- A refusal of this number: cycle and job count are 0.
+pub record Refuses (number : ℕ) (a : Answer) : Type 0 where
+  pub number-is : a .number ≡ suc number
+  pub cycle-0 : a .cycle ≡ 0
+  pub jobs-0 : a .jobs ≡ 0
+
+pub plain-refuses : (number task : ℕ) → Refuses number (refusal (suc number) task)
 unfolding refusal
-refusal-is a number task n t m c j = sym (alike a (refusal number task) n t m c j)
+plain-refuses number task = record { number-is = refl; cycle-0 = refl; jobs-0 = refl }
 
 module _ (number : ℕ) where
   pub breaks-rule : (P : Type 0) → P → Breaks (rule (suc number) P) (refusal (suc number) 0)
   unfolding rule refusal
-  breaks-rule P p = record { number-is = refl; not-0 = λ z. omega arith; broken = (refl, refl, p); cycle-0 = refl; jobs-0 = refl }
+  breaks-rule P p = record { number-is = refl; not-0 = λ z. omega arith; broken = (refl, p); cycle-0 = refl; jobs-0 = refl }
 
   pub rule-told : (P : Type 0) (b : Answer) → Breaks (rule (suc number) P) b → P × (refusal (suc number) 0 ≡ b)
   unfolding rule
-  rule-told P b breaks = (breaks .broken .2, refusal-is b (suc number) 0 (breaks .number-is) (breaks .broken .0) (breaks .broken .1) (breaks .cycle-0) (breaks .jobs-0))
+  rule-told P b breaks = (breaks .broken .1, sym (breaks .broken .0))
+
+  pub breaks-saying : (says : ℕ → Answer) (P : ℕ → Type 0) (i : ℕ) → Refuses number (says i) → P i → Breaks (saying (suc number) says P) (says i)
+  unfolding saying
+  breaks-saying says P i r p = record { number-is = r .number-is; not-0 = λ z. omega (arith, r .number-is); broken = (i, (refl, p)); cycle-0 = r .cycle-0; jobs-0 = r .jobs-0 }
 
   pub breaks-naming : (P : ℕ → Type 0) (i : ℕ) → P i → Breaks (naming (suc number) P) (refusal (suc number) (suc i))
-  unfolding naming refusal
-  breaks-naming P i p = record { number-is = refl; not-0 = λ z. omega arith; broken = (i, (refl, refl, p)); cycle-0 = refl; jobs-0 = refl }
+  breaks-naming P i p = breaks-saying (λ j. refusal (suc number) (suc j)) P i (plain-refuses number (suc i)) p
 
-  pub naming-told : (P : ℕ → Type 0) (b : Answer) → Breaks (naming (suc number) P) b → (i : ℕ) × (P i × (refusal (suc number) (suc i) ≡ b))
-  unfolding naming
-  naming-told P b breaks =
-      let h = breaks .broken in
-      (h .0, (h .1 .2, refusal-is b (suc number) (suc (h .0)) (breaks .number-is) (h .1 .0) (h .1 .1) (breaks .cycle-0) (breaks .jobs-0)))
+  pub saying-told : (says : ℕ → Answer) (P : ℕ → Type 0) (b : Answer) → Breaks (saying (suc number) says P) b → (i : ℕ) × (P i × (says i ≡ b))
+  unfolding saying
+  saying-told says P b breaks = let h = breaks .broken in (h .0, (h .1 .1, sym (h .1 .0)))
 
   pub goes-by-rule : (P : Type 0) (t : Bool) (x : Answer) → x .number ≡ 0 → (t ≡ true → P) → (P → t ≡ true) → GoesBy (rule (suc number) P then no-more) (choose t (refusal (suc number) 0) x)
   goes-by-rule P t x passes to from =

@@ -1,6 +1,7 @@
 -- What the proofs on answers cite, as laws over plain values.
 use mathlib.Core.Path.{_≡_, sym, ap, _∙_}
 use mathlib.Core.Bool.{Bool, true, _&&_}
+use mathlib.Core.Logic.{_↔_}
 use Prim.Native.Nat.{ℕ}
 use lib.IntN.{ℤ}
 use lib.Dec.{eqb}
@@ -19,57 +20,58 @@ use Rattle.cases.specs.File.{answerOf, startAnswerOf}
 
 module _ (v : Verdict) (task : ℕ) (margin said : ℤ) (same : said ≡ margin) where
   pub accepted-answer : (cycle jobs : ℕ) → v ≡ verdict.Accepted cycle jobs task margin
-      → _≡_ {A = Answer} (record { refusal = 0; task = task; margin = said; cycle = cycle; jobs = jobs }) (answerOf v)
+      → _≡_ {A = Answer} (record { refusal = 0; task = task; margin = said; cycle = cycle; jobs = jobs; reached = 0; period = 0 }) (answerOf v)
   unfolding answerOf verdictAnswer
   accepted-answer cycle jobs e = cc
 
-  pub refused-answer : (number : ℕ) → v ≡ verdict.Refused number task margin
-      → _≡_ {A = Answer} (record { refusal = number; task = task; margin = said; cycle = 0; jobs = 0 }) (answerOf v)
+  pub refused-answer : (number reached period : ℕ) → v ≡ verdict.Refused number task margin reached period
+      → _≡_ {A = Answer} (record { refusal = number; task = task; margin = said; cycle = 0; jobs = 0; reached = reached; period = period }) (answerOf v)
   unfolding answerOf verdictAnswer
-  refused-answer number e = cc
+  refused-answer number reached period e = cc
 
 module _ (b : Begun) (v : Answer) where
   pub accepted-start : b ≡ begun.Accepted → v ≡ startAnswerOf b v
   unfolding startAnswerOf
   accepted-start e = cc (ap (λ (x : Begun). startAnswerOf x v) e)
 
-  pub refused-start : (number task : ℕ) (margin said : ℤ) → said ≡ margin → b ≡ begun.Refused number task margin
-      → _≡_ {A = Answer} (record { refusal = number; task = task; margin = said; cycle = 0; jobs = 0 }) (startAnswerOf b v)
+  pub refused-start : (number task reached period : ℕ) (margin said : ℤ) → said ≡ margin → b ≡ begun.Refused number task margin reached period
+      → _≡_ {A = Answer} (record { refusal = number; task = task; margin = said; cycle = 0; jobs = 0; reached = reached; period = period }) (startAnswerOf b v)
   unfolding startAnswerOf
-  refused-start number task margin said same e = cc (ap (λ (x : Begun). startAnswerOf x v) e)
+  refused-start number task reached period margin said same e = cc (ap (λ (x : Begun). startAnswerOf x v) e)
 
 -- Two margins are equal if their words are.
 pub same-margin : (e f : ℤ) → SFits w32 e → SFits w32 f → ofZ w32 e ≡ ofZ w32 f → e ≡ f
 same-margin e f fe ff h = sym (toZ-ofZ {w = w32} fe) ∙ ap (toZ w32) h ∙ toZ-ofZ {w = w32} ff
 
-same-fields : (r r′ t t′ : ℕ) (m m′ : ℤ) (y y′ j j′ : ℕ) → r ≡ r′ → t ≡ t′ → m ≡ m′ → y ≡ y′ → j ≡ j′
-    → _≡_ {A = Answer} (record { refusal = r; task = t; margin = m; cycle = y; jobs = j }) (record { refusal = r′; task = t′; margin = m′; cycle = y′; jobs = j′ })
-same-fields r r′ t t′ m m′ y y′ j j′ a b d g h = cc
+-- A test that is true exactly if two numbers are equal, and two tests together.
+same-number : (b : Bool) (x y : ℕ) → b ≡ eqb x y → (b ≡ true) ↔ (x ≡ y)
+same-number b x y e = (λ h. eqb-true x y (sym e ∙ h), λ h. e ∙ eq-eqb x y h)
 
-module _ (e f : Answer) (r t m y j : Bool) (er : r ≡ eqb (e .refusal) (f .refusal)) (et : t ≡ eqb (e .task) (f .task)) (x z : ℤ) (ex : x ≡ e .margin) (ez : z ≡ f .margin) (em : (m ≡ true → x ≡ z) × (x ≡ z → m ≡ true)) (ey : y ≡ eqb (e .cycle) (f .cycle)) (ej : j ≡ eqb (e .jobs) (f .jobs)) where
+and-so : (a b : Bool) (P Q : Type 0) → (a ≡ true) ↔ P → (b ≡ true) ↔ Q → ((a && b) ≡ true) ↔ (P × Q)
+and-so a b P Q p q = (
+  λ h. let s = both-true a b .0 h in (p .0 (s .0), q .0 (s .1)),
+  λ h. both-true a b .1 (p .1 (h .0), q .1 (h .1)),
+)
+
+module _ (e f : Answer) (r t m y j c p : Bool) (er : r ≡ eqb (e .refusal) (f .refusal)) (et : t ≡ eqb (e .task) (f .task)) (x z : ℤ) (ex : x ≡ e .margin) (ez : z ≡ f .margin) (em : (m ≡ true) ↔ (x ≡ z)) (ey : y ≡ eqb (e .cycle) (f .cycle)) (ej : j ≡ eqb (e .jobs) (f .jobs)) (ec : c ≡ eqb (e .reached) (f .reached)) (ep : p ≡ eqb (e .period) (f .period)) where
   -- All agree exactly if the answers are equal.
-  agree-same : r ≡ true → t ≡ true → m ≡ true → y ≡ true → j ≡ true → e ≡ f
-  agree-same hr ht hm hy hj =
-      let a : e .refusal ≡ f .refusal = eqb-true _ _ (sym er ∙ hr) in
-      let b : e .task ≡ f .task = eqb-true _ _ (sym et ∙ ht) in
-      let d : e .margin ≡ f .margin = sym ex ∙ em .0 hm ∙ ez in
-      let g : e .cycle ≡ f .cycle = eqb-true _ _ (sym ey ∙ hy) in
-      let h : e .jobs ≡ f .jobs = eqb-true _ _ (sym ej ∙ hj) in
-      same-fields (e .refusal) (f .refusal) (e .task) (f .task) (e .margin) (f .margin) (e .cycle) (f .cycle) (e .jobs) (f .jobs) a b d g h
-
-  same-agree : e ≡ f → (r ≡ true) × (t ≡ true) × (m ≡ true) × (y ≡ true) × (j ≡ true)
-  same-agree h =
-      (er ∙ eq-eqb _ _ (ap (λ (x : Answer). x .refusal) h), et ∙ eq-eqb _ _ (ap (λ (x : Answer). x .task) h), em .1 (ex ∙ ap (λ (x : Answer). x .margin) h ∙ sym ez), ey ∙ eq-eqb _ _ (ap (λ (x : Answer). x .cycle) h), ej ∙ eq-eqb _ _ (ap (λ (x : Answer). x .jobs) h))
-
-  pub agree : (((((r && t) && m) && y) && j) ≡ true → e ≡ f) × (e ≡ f → ((((r && t) && m) && y) && j) ≡ true)
-  agree = (
-    λ h.
-        let p4 = both-true _ _ .0 h in
-        let p3 = both-true _ _ .0 (p4 .0) in
-        let p2 = both-true _ _ .0 (p3 .0) in
-        let p1 = both-true _ _ .0 (p2 .0) in
-        agree-same (p1 .0) (p1 .1) (p2 .1) (p3 .1) (p4 .1),
-    λ h.
-        let s = same-agree h in
-        both-true _ _ .1 (both-true _ _ .1 (both-true _ _ .1 (both-true _ _ .1 (s .0, s .1), s .2), s .3), s .4),
-  )
+  pub agree : (((((((r && t) && m) && y) && j) && c) && p) ≡ true) ↔ (e ≡ f)
+  agree =
+      let to-margin = and-so _ _ _ _ (and-so _ _ _ _ (same-number r _ _ er) (same-number t _ _ et)) em in
+      let to-jobs = and-so _ _ _ _ (and-so _ _ _ _ to-margin (same-number y _ _ ey)) (same-number j _ _ ej) in
+      let together = and-so _ _ _ _ (and-so _ _ _ _ to-jobs (same-number c _ _ ec)) (same-number p _ _ ep) in (
+        λ h.
+            let s = together .0 h in
+            let same : e .margin ≡ f .margin = sym ex ∙ s .0 .0 .0 .0 .1 ∙ ez in
+            λ k. record {
+              refusal = s .0 .0 .0 .0 .0 .0 k;
+              task = s .0 .0 .0 .0 .0 .1 k;
+              margin = same k;
+              cycle = s .0 .0 .0 .1 k;
+              jobs = s .0 .0 .1 k;
+              reached = s .0 .1 k;
+              period = s .1 k;
+            },
+        λ h.
+            together .1 ((((((λ k. h k .refusal, λ k. h k .task), ex ∙ (λ k. h k .margin) ∙ sym ez), λ k. h k .cycle), λ k. h k .jobs), λ k. h k .reached), λ k. h k .period),
+      )

@@ -12,9 +12,11 @@ answerOf v = record {
   margin = verdictAnswer v .margin;
   cycle = verdictAnswer v .cycle;
   jobs = verdictAnswer v .jobs;
+  reached = verdictAnswer v .reached;
+  period = verdictAnswer v .period;
 }
 
 -- An accepted start answers nothing beside the state; the verdict on the list stands for it.
 unfoldable pub startAnswerOf : Begun → Answer → Answer
 startAnswerOf Accepted verdict = verdict
-startAnswerOf (Refused number task margin) verdict = record { refusal = number; task = task; margin = margin; cycle = 0; jobs = 0 }
+startAnswerOf (Refused number task margin reached period) verdict = record { refusal = number; task = task; margin = margin; cycle = 0; jobs = 0; reached = reached; period = period }

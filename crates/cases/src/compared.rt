@@ -20,17 +20,23 @@ pub fn answer_of(verdict: Verdict) -> Answer
             margin,
             cycle,
             jobs,
+            reached: 0,
+            period: 0,
         },
         Verdict::Refused {
             number,
             task,
             margin,
+            reached,
+            period,
         } => Answer {
             refusal: number,
             task,
             margin,
             cycle: 0,
             jobs: 0,
+            reached,
+            period,
         },
     }
 }
@@ -45,12 +51,16 @@ pub fn start_answer_of(begun: Begun, verdict: Answer) -> Answer
             number,
             task,
             margin,
+            reached,
+            period,
         } => Answer {
             refusal: number,
             task,
             margin,
             cycle: 0,
             jobs: 0,
+            reached,
+            period,
         },
     }
 }

@@ -82,5 +82,7 @@ pub fn answer_agrees(number: u32, expected: Answer, found: Answer) -> bool
     let margin = margin_agrees(number, expected.margin, found.margin);
     let cycle = agrees(number, b"cycle", expected.cycle, found.cycle);
     let jobs = agrees(number, b"jobs", expected.jobs, found.jobs);
-    refusal & task & margin & cycle & jobs
+    let reached = agrees(number, b"multiple", expected.reached, found.reached);
+    let period = agrees(number, b"period", expected.period, found.period);
+    refusal & task & margin & cycle & jobs & reached & period
 }

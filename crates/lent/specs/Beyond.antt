@@ -11,7 +11,7 @@ use Rattle.basis.specs.Bytes.{overwrite, overwrite-same}
 use Rattle.basis.specs.Choose.{choose}
 use Rattle.basis.specs.Least.{least}
 use Rattle.basis.specs.Sum.{sum-ext}
-use Rattle.basis.specs.Answer.{Answer, refusal, none, _orElse_, firstFound}
+use Rattle.basis.specs.Answer.{Answer, refusal, clash, none, _orElse_, firstFound}
 use Rattle.plan.specs.Plan.{Plan, job, age, keyIn, wants, pick, gets, had, entry, table, given, ranksBefore}
 use Rattle.plan.specs.Rank.{first-ext}
 use Rattle.plan.specs.Run.{had-first, had-next}
@@ -136,7 +136,7 @@ module _ (ts us : List Task) (n : ℕ) (same : (i : ℕ) → i < n → taskAt ts
       ofCount n
       orElse first-found-same (ofTask ts) (ofTask us) n (λ i li k. ofNumbers (same i li k .period) (same i li k .runtime) (suc i)) j
       orElse first-found-same (ofMemory ts supply) (ofMemory us supply) n (λ i li k. choose (ltb supply (memory-same (suc i) li k)) (refusal 5 (suc i)) none) j
-      orElse first-found-same (ofCycle ts) (ofCycle us) n (λ i li k. choose (ltb 4096 (multiple-same (suc i) li k)) (refusal 6 (suc i)) none) j
+      orElse first-found-same (ofCycle ts) (ofCycle us) n (λ i li k. choose (ltb 4096 (multiple-same (suc i) li k)) (clash (suc i) (multiple-same i (omega arith) k) (same i li k .period)) none) j
 
   bounds-same : (supply : ℕ) → boundsOf l supply ≡ boundsOf m supply
   unfolding boundsOf jobsOf cycleOf
@@ -150,11 +150,11 @@ module _ (ts us : List Task) (n : ℕ) (same : (i : ℕ) → i < n → taskAt ts
   judged-same p cycle jobs late =
       let best : tightest P n ≡ tightest Q n = tightest-same p in
       let least-margin : margin P (tightest P n) ≡ margin Q (tightest Q n) = margin-same (tightest P n) (tightest-law P n p (omega arith) .is-below) ∙ ap (margin Q) best in
-      λ j. choose (eqb (late .task) 0) (Accepted cycle jobs (suc (best j)) (pos (least-margin j))) (Refused 7 (late .task) (subℕ 0 (late .short)))
+      λ j. choose (eqb (late .task) 0) (Accepted cycle jobs (suc (best j)) (pos (least-margin j))) (Refused 7 (late .task) (subℕ 0 (late .short)) 0 0)
 
   from-same : (supply : ℕ) (b : Bounds) → boundsOf l supply ≡ b → verdictFrom l b ≡ verdictFrom m b
   unfolding verdictFrom
-  from-same supply (Broken number task) e = refl
+  from-same supply (Broken number task reached period) e = refl
   from-same supply (Kept cycle jobs) e =
       judged-same (kept-tells l supply cycle jobs e .keeps .some) cycle jobs (lateness P cycle) ∙ ap (judged Q cycle jobs) (lateness-same cycle)
 

@@ -42,13 +42,13 @@ module _ (k l : TaskList) (a : Alike k l) where
   tabled-alike : (r : Verdict) (old : List ℕ) → tabled k r old ≡ tabled l r old
   unfolding tabled
   tabled-alike (Accepted cycle jobs task margin) old = counted (λ m. overwrite (table (planOf m)) cycle old) (entries-same (k .tasks) (l .tasks) (l .count) (a .tasks) cycle old)
-  tabled-alike (Refused number task margin) old = refl
+  tabled-alike (Refused number task margin reached period) old = refl
 
   begun-alike : (asked : Asked) (clock : ℕ) (v : Verdict) (room : ℕ) → begunState k asked clock v room ≡ begunState l asked clock v room
   unfolding begunState
   begun-alike asked clock (Accepted cycle jobs task margin) room =
       ap (choose (ltb room jobs) noRun) (counted (λ m. startState m cycle (modeOf asked) clock) (state-same (k .tasks) (l .tasks) (l .count) (a .tasks) cycle (modeOf asked) clock))
-  begun-alike asked clock (Refused number task margin) room = refl
+  begun-alike asked clock (Refused number task margin reached period) room = refl
 
   pub built-alike : (supply : ℕ) (old new : List ℕ) (r : Verdict) → Built k supply old new r → Built l supply old new r
   built-alike supply old new r b =

@@ -1,13 +1,13 @@
 -- What is printed at each way out of `answer`, as laws over plain values.
-use mathlib.Core.Path.{_≡_, sym, ap, ap₂, subst, _∙_}
-use mathlib.Core.List.{List}
+use mathlib.Core.Path.{_≡_, refl, sym, ap, ap₂, subst, _∙_}
+use mathlib.Core.List.{List, []}
 use Prim.Native.Nat.{ℕ, _≤_, _<_}
 use native.Mathlib.Omega.{arith}
 use lib.IntN.{ℤ, pos}
 use lib.ListN.{length, getD, take, replicate, length-replicate}
 use lib.Seq.{length-take-le, getD-take, ext-getD}
-use borrow.Author.Tests.{le-ltb}
-use Rattle.basis.specs.Choose.{choose-no}
+use borrow.Author.Tests.{le-ltb, eq-eqb, ne-eqb}
+use Rattle.basis.specs.Choose.{choose, choose-yes, choose-no}
 use Rattle.basis.specs.Bytes.{overwrite, overwrite-length, overwritten-length, overwrite-at}
 use Rattle.basis.specs.Answer.{refusal, none}
 use Rattle.plan.specs.Plan.{table}
@@ -22,15 +22,15 @@ use Rattle.records.specs.declared.Form.{Form}
 use Rattle.records.specs.declared.Form.the-variants.{Good, Bad}
 use Rattle.records.specs.declared.Parsed.{Parsed}
 use Rattle.records.specs.Grammar.{formAnswer, readOf, Reads}
-use Rattle.printing.specs.Text.{refusalText, tableText}
+use Rattle.printing.specs.Text.{refusalText, clashText, tableText}
 use Rattle.printing.specs.Written.{Written}
-use Rattle.output.specs.Output.{recordOf, entries, too-long, bad-line, refused, accepted, Answers}
+use Rattle.output.specs.Output.{recordOf, entries, too-long, bad-line, refused, accepted, Answers, noteOf, of-no-list, of-bad-line, of-list, Noted}
 
 -- ---- the refusal record of an answer
 module _ {old new : List ℕ} {r : ℕ} (v : Verdict) (task : ℕ) (margin m : ℤ) (same : m ≡ margin) where
-  pub writes-refused : (number : ℕ) → v ≡ Refused number task margin → Written (refusalText number task m) old new r → Written (recordOf (verdictAnswer v)) old new r
+  pub writes-refused : (number reached period : ℕ) → v ≡ Refused number task margin reached period → Written (refusalText number task m) old new r → Written (recordOf (verdictAnswer v)) old new r
   unfolding recordOf verdictAnswer
-  writes-refused number q W = rw (q, ← same) W
+  writes-refused number reached period q W = rw (q, ← same) W
 
   pub writes-accepted : (cycle jobs : ℕ) → v ≡ Accepted cycle jobs task margin → Written (refusalText 0 task m) old new r → Written (recordOf (verdictAnswer v)) old new r
   unfolding recordOf verdictAnswer
@@ -52,13 +52,13 @@ module _ {input old new : List ℕ} {r : ℕ} where
     unfolding readOf formAnswer refusal
     answers-bad-line line b W = record { text = _; prints = bad-line l R (ap (λ (f : Form). formAnswer f .number) b); written = W }
 
-    pub answers-refused : p .form ≡ Good → (v : Verdict) → v ≡ verdictOf (p .list) 65536 → (number task : ℕ) (margin : ℤ) → v ≡ Refused number task margin
+    pub answers-refused : p .form ≡ Good → (v : Verdict) → v ≡ verdictOf (p .list) 65536 → (number task : ℕ) (margin : ℤ) (reached period : ℕ) → v ≡ Refused number task margin reached period
         → Written (recordOf (verdictAnswer v)) old new r → Answers input old new r
     unfolding readOf verdictAnswer
-    answers-refused good v e number task margin q W =
+    answers-refused good v e number task margin reached period q W =
         record {
           text = _;
-          prints = refused l R (good-answer p good) (λ z. refused-not-0 (p .list) 65536 number task margin (sym e ∙ q) (sym (ap (λ (x : Verdict). verdictAnswer x .number) (sym e ∙ q)) ∙ z));
+          prints = refused l R (good-answer p good) (λ z. refused-not-0 (p .list) 65536 number task margin reached period (sym e ∙ q) (sym (ap (λ (x : Verdict). verdictAnswer x .number) (sym e ∙ q)) ∙ z));
           written = rw e at W;
         }
 
@@ -86,9 +86,9 @@ module _ (l : TaskList) (v : Verdict) (e : v ≡ verdictOf l 65536) (cycle jobs 
     unfolding fitted
     built-accepted = is-built .answer ∙ ap (λ (x : Verdict). fitted x (length lent)) (sym e ∙ q) ∙ choose-no _ _ _ (le-ltb (length lent) cycle (omega (arith, within)))
 
-    pub never-short : {A : Type 0} (number task′ : ℕ) (margin′ : ℤ) → w ≡ Refused number task′ margin′ → A
-    never-short number task′ margin′ short =
-        let both : Accepted cycle jobs task margin ≡ Refused number task′ margin′ = sym built-accepted ∙ short in
+    pub never-short : {A : Type 0} (number task′ : ℕ) (margin′ : ℤ) (reached period : ℕ) → w ≡ Refused number task′ margin′ reached period → A
+    never-short number task′ margin′ reached period short =
+        let both : Accepted cycle jobs task margin ≡ Refused number task′ margin′ reached period = sym built-accepted ∙ short in
         let z : _≡_ {A = ℕ} 0 1 = cc in
         absurd (omega arith)
 
@@ -111,6 +111,38 @@ module _ (l : TaskList) (v : Verdict) (e : v ≡ verdictOf l 65536) (cycle jobs 
         fits within,
       )
 
--- What is printed lies within the lent bytes.
-pub answer-within : {input old new : List ℕ} {r : ℕ} → Answers input old new r → r ≤ length old → r ≤ length new
-answer-within {old = old} {new = new} answers l = omega (arith, overwritten-length (λ i. getD (answers .text) i 0) old (length (answers .text)) new (answers .written .bytes))
+-- ---- the note
+writes-nothing : {old : List ℕ} → Written [] old old 0
+unfolding overwrite
+writes-nothing = record { whole = refl; bytes = refl }
+
+module _ {old : List ℕ} (v : Verdict) where
+  pub notes-accepted : (cycle jobs task : ℕ) (margin : ℤ) → v ≡ Accepted cycle jobs task margin → Written (noteOf (verdictAnswer v)) old old 0
+  unfolding noteOf verdictAnswer choose
+  notes-accepted cycle jobs task margin q = rw q writes-nothing
+
+  module _ (number task : ℕ) (margin : ℤ) (reached period : ℕ) (q : v ≡ Refused number task margin reached period) where
+    pub notes-other : (number ≡ 6 → ⊥) → Written (noteOf (verdictAnswer v)) old old 0
+    unfolding noteOf verdictAnswer
+    notes-other other = rw (q, choose-no _ (clashText reached period) [] (ne-eqb number 6 other)) writes-nothing
+
+    pub notes-clash : {new : List ℕ} {r : ℕ} → number ≡ 6 → Written (clashText reached period) old new r → Written (noteOf (verdictAnswer v)) old new r
+    unfolding noteOf verdictAnswer
+    notes-clash six W = rw (q, choose-yes _ (clashText reached period) [] (eq-eqb number 6 six)) W
+
+module _ {input old : List ℕ} where
+  pub notes-too-long : 4096 < length input → Noted input old old 0
+  notes-too-long l = record { text = []; notes = of-no-list l; written = writes-nothing }
+
+  module _ (p : Parsed) (l : length input ≤ 4096) (R : Reads input (readOf p)) where
+    pub notes-bad-line : (line : ℕ) → p .form ≡ Bad line → Noted input old old 0
+    unfolding readOf formAnswer refusal
+    notes-bad-line line b = record { text = []; notes = of-bad-line l R (ap (λ (f : Form). formAnswer f .number) b); written = writes-nothing }
+
+    pub notes-list : {new : List ℕ} {r : ℕ} → p .form ≡ Good → (v : Verdict) → v ≡ verdictOf (p .list) 65536 → Written (noteOf (verdictAnswer v)) old new r → Noted input old new r
+    unfolding readOf
+    notes-list good v e W = record { text = _; notes = of-list l R (good-answer p good); written = rw e at W }
+
+-- What is printed or said lies within the lent bytes.
+pub within-lent : {text old new : List ℕ} {r : ℕ} → Written text old new r → r ≤ length old → r ≤ length new
+within-lent {text = text} {old = old} {new = new} W l = omega (arith, overwritten-length (λ i. getD text i 0) old (length text) new (W .bytes))

@@ -1,10 +1,12 @@
-// The program: reads a task list from standard input and prints its table, or the refusal, on standard output.
+// The program: reads a task list from standard input and prints its table, or the refusal, on standard output; which two
+// periods clash is said on standard error.
 ghost use Prim.Native.Nat.{_≤_};
 ghost use lib.ListN.{length};
 ghost use Rattle.printing.specs.Written.{Written};
 ghost use Rattle.verdict.specs.Verdict.{verdictAnswer};
 ghost use Rattle.records.specs.Grammar.{formAnswer};
-ghost use Rattle.output.specs.Output.{recordOf, Answers};
+ghost use Rattle.output.specs.Output.{recordOf, Answers, noteOf, Noted};
+use libc::STDERR_FILENO;
 use libc::STDIN_FILENO;
 use libc::STDOUT_FILENO;
 use records::Form;
@@ -31,35 +33,70 @@ fn refuse_list(verdict: Verdict, out: &mut [u8]) -> usize
             number,
             task,
             margin,
+            ..
         } => printing::write_refusal(number, task, margin, out),
         Verdict::Accepted { task, margin, .. } => printing::write_refusal(0, task, margin, out),
     }
 }
 
-// What is to be printed for an input, and its length. The table is worked out in the lent bytes.
-fn answer(input: &[u8], table: &mut [u8], out: &mut [u8]) -> usize
+// What is said beside the refusal record of a list: which two periods clash.
+fn note_list(verdict: Verdict, out: &mut [u8]) -> usize
+    ensures { λ r. ⌜ Written (noteOf (verdictAnswer verdict)) (now (out .entry)) (now (out .exit)) r ⌝ }
+    ensures { λ r. ⌜ r ≤ 39 ⌝ }
+{
+    let Verdict::Refused {
+        number,
+        reached,
+        period,
+        ..
+    } = verdict
+    else {
+        return 0;
+    };
+    if number != 6 {
+        return 0;
+    }
+    printing::write_clash(reached, period, out)
+}
+
+// How long the answer is, and what is said beside it.
+struct Lengths {
+    answer: usize,
+    note: usize,
+}
+
+// What is to be printed for an input, what is to be said beside it, and how long both are. The table is worked out in the lent
+// bytes.
+fn answer(input: &[u8], table: &mut [u8], out: &mut [u8], words: &mut [u8]) -> Lengths
     requires { ⌜ 4096 ≤ length (now table) ⌝ }
-    ensures { λ r. ⌜ Answers (now (input .entry)) (now (out .entry)) (now (out .exit)) r ⌝ }
-    ensures { λ r. ⌜ r ≤ 40972 ⌝ }
+    ensures { λ r. ⌜ Answers (now (input .entry)) (now (out .entry)) (now (out .exit)) (r .answer) ⌝ }
+    ensures { λ r. ⌜ Noted (now (input .entry)) (now (words .entry)) (now (words .exit)) (r .note) ⌝ }
+    ensures { λ r. ⌜ (r .answer ≤ 40972) × (r .note ≤ 39) ⌝ }
 {
     if 4096 < input.len() {
-        return printing::write_refusal(16, 0, 0, out);
+        let answer = printing::write_refusal(16, 0, 0, out);
+        return Lengths { answer, note: 0 };
     }
     let parsed = records::read_list(input);
     let form = parsed.form;
     let Form::Good = form else {
-        return refuse_form(form, out);
+        let answer = refuse_form(form, out);
+        return Lengths { answer, note: 0 };
     };
     let list = parsed.list;
     let verdict = lent::judge_list(list, 65536);
     let Verdict::Accepted { cycle, .. } = verdict else {
-        return refuse_list(verdict, out);
+        let answer = refuse_list(verdict, out);
+        let note = note_list(verdict, words);
+        return Lengths { answer, note };
     };
     let built = lent::build_list(list, 65536, table);
     let Verdict::Accepted { .. } = built else {
-        return refuse_list(built, out);
+        let answer = refuse_list(built, out);
+        return Lengths { answer, note: 0 };
     };
-    printing::write_table(table, cycle, out)
+    let answer = printing::write_table(table, cycle, out);
+    Lengths { answer, note: 0 }
 }
 
 // One byte more than an input may have is enough to tell that it is too long.
@@ -68,6 +105,8 @@ fn main() {
     let got = io::read_full(STDIN_FILENO, &mut input);
     let mut table = [0u8; 4096];
     let mut out = [0u8; 40972];
-    let length = answer(&input[..got], &mut table, &mut out);
-    io::write_all(STDOUT_FILENO, &out[..length]);
+    let mut words = [0u8; 39];
+    let lengths = answer(&input[..got], &mut table, &mut out, &mut words);
+    io::write_all(STDOUT_FILENO, &out[..lengths.answer]);
+    io::write_all(STDERR_FILENO, &words[..lengths.note]);
 }

@@ -10,9 +10,9 @@ use lib.Seq.{getD-take}
 use mir.Syntax.{w32, w64}
 use mir.Val.{Fits, SFits}
 use Rattle.basis.specs.Choose.{eq-or-ne}
-use Rattle.printing.specs.Text.{ascii, crlf, refusalHeader, refusalRecord, refusalText, tableHeader, tableText, sliceRecord, recordsTo}
+use Rattle.printing.specs.Text.{ascii, crlf, refusalHeader, refusalRecord, refusalText, clashHeader, clashText, tableHeader, tableText, pairRecord, recordsTo}
 use Rattle.printing.specs.Written.{Written}
-use Rattle.printing.specs.Lengths.{refusal-length, refusal-fits, table-fits, slice-length, records-next, records-length}
+use Rattle.printing.specs.Lengths.{refusal-length, refusal-fits, clash-length, clash-fits, table-fits, slice-length, records-next, records-length}
 use Rattle.printing.specs.Shapes.{Room, Put}
 use Rattle.printing.proofs.Signed.{magnitude-small}
 
@@ -20,6 +20,10 @@ pub refusal-room : (number task : ℕ) (margin : ℤ) → Fits w32 number → Fi
 unfolding refusalHeader crlf ascii
 refusal-room number task margin fn ft fm p =
     record { room = omega (arith, p .next, refusal-length number task margin (fn .fits) (ft .fits) (magnitude-small margin fm)) }
+
+pub clash-room : (reached period : ℕ) → Fits w32 reached → Fits w32 period → {old mid : List ℕ} {r : ℕ} → Put clashHeader 0 old mid r → Room (pairRecord reached period) r
+unfolding clashHeader crlf ascii
+clash-room reached period fr fp p = record { room = omega (arith, p .next, clash-length reached period (fr .fits) (fp .fits)) }
 
 module _ (table : List ℕ) where
   -- The records up to a slice are no longer than those up to a later one.
@@ -31,7 +35,7 @@ module _ (table : List ℕ) where
       (λ (ne : t ≡ suc n → ⊥). omega (arith, records-next table n, records-grow n t (omega arith)))
       (eq-or-ne t (suc n))
 
-  pub slice-room : (n t : ℕ) {old mid : List ℕ} {at r : ℕ} → Room (recordsTo table n) at → Put (recordsTo table t) at old mid r → t < n → Room (sliceRecord t (getD table t 0)) r
+  pub slice-room : (n t : ℕ) {old mid : List ℕ} {at r : ℕ} → Room (recordsTo table n) at → Put (recordsTo table t) at old mid r → t < n → Room (pairRecord t (getD table t 0)) r
   slice-room n t h p l = record { room = omega (arith, h .room, p .next, records-next table t, records-grow n (suc t) l) }
 
   pub table-room : (n : ℕ) → n ≤ 2 ^ 32 → ((i : ℕ) → getD table i 0 < 256) → {old mid : List ℕ} {r : ℕ} → Put tableHeader 0 old mid r → Room (recordsTo table n) r
@@ -43,6 +47,9 @@ module _ (table : List ℕ) where
 -- ---- what a caller may rely on
 pub refusal-room-enough : (number task : ℕ) (margin : ℤ) → Fits w32 number → Fits w64 task → SFits w32 margin → {old new : List ℕ} {r : ℕ} → Written (refusalText number task margin) old new r → r ≤ 66
 refusal-room-enough number task margin fn ft fm W = omega (arith, W .whole, refusal-fits number task margin (fn .fits) (ft .fits) (magnitude-small margin fm))
+
+pub clash-room-enough : (reached period : ℕ) → Fits w32 reached → Fits w32 period → {old new : List ℕ} {r : ℕ} → Written (clashText reached period) old new r → r ≤ 39
+clash-room-enough reached period fr fp W = omega (arith, W .whole, clash-fits reached period (fr .fits) (fp .fits))
 
 pub table-room-enough : (table : List ℕ) (cycle : ℕ) → ((i : ℕ) → getD table i 0 < 256) → {old new : List ℕ} {r : ℕ} → Written (tableText (take cycle table)) old new r → cycle ≤ 4096 → r ≤ 40972
 table-room-enough table cycle bytes W l =

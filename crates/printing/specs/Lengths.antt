@@ -5,7 +5,7 @@ use Prim.Native.Nat.{ℕ, zero, suc, _+_, _*_, _^_, _≤_, _<_}
 use native.Mathlib.Omega.{arith}
 use lib.IntN.{ℤ, pos, negsuc, natAbs}
 use lib.ListN.{length, getD, length-append}
-use Rattle.printing.specs.Text.{ascii, decimal, sign, signedDecimal, field, crlf, refusalHeader, refusalRecord, refusalText, tableHeader, sliceRecord, recordsTo, tableText}
+use Rattle.printing.specs.Text.{ascii, decimal, sign, signedDecimal, field, crlf, refusalHeader, refusalRecord, refusalText, clashHeader, clashText, tableHeader, pairRecord, recordsTo, tableText}
 use Rattle.printing.specs.Decimal.{decimal-length}
 
 field-length : (k n : ℕ) → n < 10 ^ suc k → length (field n) ≤ suc k + 1
@@ -42,26 +42,39 @@ unfolding refusalText refusalHeader crlf ascii
 refusal-fits number task margin ln lt lm =
     omega (arith, length-append refusalHeader (refusalRecord number task margin), refusal-length number task margin ln lt lm)
 
--- ---- a table
--- A slice number of so many digits, an entry of 3, a comma and CRLF.
-pub slice-length : (k t entry : ℕ) → t < 10 ^ suc k → entry < 256 → length (sliceRecord t entry) ≤ suc k + 6
-unfolding sliceRecord crlf ascii
-slice-length k t entry lt le =
+-- ---- a record of two numbers
+-- Numbers of so many digits, a comma and CRLF.
+pair-length : (k j a b : ℕ) → a < 10 ^ suc k → b < 10 ^ suc j → length (pairRecord a b) ≤ suc k + suc j + 3
+unfolding pairRecord crlf ascii
+pair-length k j a b la lb =
     omega (
       arith,
-      length-append (field t ++ decimal entry) crlf,
-      length-append (field t) (decimal entry),
-      field-length k t lt,
-      decimal-length 2 entry (omega arith),
+      length-append (field a ++ decimal b) crlf,
+      length-append (field a) (decimal b),
+      field-length k a la,
+      decimal-length j b lb,
     )
 
+-- Two numbers of 10 digits; with the header, 39 bytes are room for every clash.
+pub clash-length : (reached period : ℕ) → reached < 2 ^ 32 → period < 2 ^ 32 → length (pairRecord reached period) ≤ 23
+clash-length reached period lr lp = omega (arith, pair-length 9 9 reached period (omega arith) (omega arith))
+
+pub clash-fits : (reached period : ℕ) → reached < 2 ^ 32 → period < 2 ^ 32 → length (clashText reached period) ≤ 39
+unfolding clashText clashHeader crlf ascii
+clash-fits reached period lr lp = omega (arith, length-append clashHeader (pairRecord reached period), clash-length reached period lr lp)
+
+-- ---- a table
+-- A slice number of so many digits, and an entry of 3.
+pub slice-length : (k t entry : ℕ) → t < 10 ^ suc k → entry < 256 → length (pairRecord t entry) ≤ suc k + 6
+slice-length k t entry lt le = omega (arith, pair-length k 2 t entry lt (omega arith))
+
 module _ (table : List ℕ) where
-  pub records-next : (t : ℕ) → length (recordsTo table (suc t)) ≡ length (recordsTo table t) + length (sliceRecord t (getD table t 0))
+  pub records-next : (t : ℕ) → length (recordsTo table (suc t)) ≡ length (recordsTo table t) + length (pairRecord t (getD table t 0))
   unfolding recordsTo
-  records-next t = length-append (recordsTo table t) (sliceRecord t (getD table t 0))
+  records-next t = length-append (recordsTo table t) (pairRecord t (getD table t 0))
 
   -- Records of at most so many bytes each.
-  pub records-length : (most n : ℕ) → ((t : ℕ) → t < n → length (sliceRecord t (getD table t 0)) ≤ most) → length (recordsTo table n) ≤ n * most
+  pub records-length : (most n : ℕ) → ((t : ℕ) → t < n → length (pairRecord t (getD table t 0)) ≤ most) → length (recordsTo table n) ≤ n * most
   unfolding recordsTo
   records-length most zero each = omega arith
   records-length most (suc t) each =

@@ -54,18 +54,26 @@ refusalRecord number task margin = field number ++ field task ++ signedDecimal m
 unfoldable pub refusalText : ℕ → ℕ → ℤ → List ℕ
 refusalText number task margin = refusalHeader ++ refusalRecord number task margin
 
+-- ---- a record of two numbers
+unfoldable pub pairRecord : ℕ → ℕ → List ℕ
+pairRecord a b = field a ++ decimal b ++ crlf
+
+-- ---- why two periods clash
+unfoldable pub clashHeader : List ℕ
+clashHeader = ascii "reached,period" ++ crlf
+
+-- The header and one record: the multiple reached, and the period that is too much for it.
+unfoldable pub clashText : ℕ → ℕ → List ℕ
+clashText reached period = clashHeader ++ pairRecord reached period
+
 -- ---- a table
 unfoldable pub tableHeader : List ℕ
 tableHeader = ascii "slice,task" ++ crlf
 
--- a slice's number, then its entry
-unfoldable pub sliceRecord : ℕ → ℕ → List ℕ
-sliceRecord t entry = field t ++ decimal entry ++ crlf
-
--- the records of the slices before slice n
+-- the records of the slices before slice n: a slice's number, then its entry
 unfoldable pub recordsTo : List ℕ → ℕ → List ℕ
 recordsTo table zero = []
-recordsTo table (suc t) = recordsTo table t ++ sliceRecord t (getD table t 0)
+recordsTo table (suc t) = recordsTo table t ++ pairRecord t (getD table t 0)
 
 -- The header and a record for each slice.
 unfoldable pub tableText : List ℕ → List ℕ

@@ -1,9 +1,9 @@
-// Records by RFC 4180 into a lent buffer: a refusal, and a table.
+// Records by RFC 4180 into a lent buffer: a refusal, why two periods clash, and a table.
 ghost use mathlib.Core.List.{[], _∷_};
 ghost use lib.ListN.{length, take};
 ghost use mathlib.Core.Path.{_≡_};
 ghost use Prim.Native.Nat.{_≤_, min};
-ghost use Rattle.printing.specs.Text.{decimal, field, signedDecimal, refusalRecord, refusalText, sliceRecord, recordsTo, tableText};
+ghost use Rattle.printing.specs.Text.{decimal, field, signedDecimal, refusalRecord, refusalText, pairRecord, clashText, recordsTo, tableText};
 ghost use Rattle.printing.specs.Written.{Written};
 ghost use Rattle.printing.specs.Shapes.{Room, Put};
 
@@ -77,12 +77,12 @@ fn put_refusal(number: u32, task: usize, margin: i32, out: &mut [u8], at: usize)
     put_text(b"\r\n", out, end)
 }
 
-fn put_slice(t: usize, entry: u8, out: &mut [u8], at: usize) -> usize
-    requires { ⌜ Room (sliceRecord t entry) at ⌝ }
-    ensures { λ r. ⌜ Put (sliceRecord t entry) at (now (out .entry)) (now (out .exit)) r ⌝ }
+fn put_pair(first: u64, second: u64, out: &mut [u8], at: usize) -> usize
+    requires { ⌜ Room (pairRecord first second) at ⌝ }
+    ensures { λ r. ⌜ Put (pairRecord first second) at (now (out .entry)) (now (out .exit)) r ⌝ }
 {
-    let second = put_field(t as u64, out, at);
-    let end = put_decimal(entry as u64, out, second);
+    let next = put_field(first, out, at);
+    let end = put_decimal(second, out, next);
     put_text(b"\r\n", out, end)
 }
 
@@ -95,7 +95,7 @@ fn put_slices(table: &[u8], count: usize, out: &mut [u8], at: usize) -> usize
     let mut next = at;
     let mut t = 0;
     while t < count {
-        let after = put_slice(t, table[t], out, next);
+        let after = put_pair(t as u64, table[t] as u64, out, next);
         next = after;
         t += 1;
     }
@@ -115,6 +115,15 @@ pub fn write_refusal(number: u32, task: usize, margin: i32, out: &mut [u8]) -> u
 {
     let next = put_text(b"refusal,task,margin\r\n", out, 0);
     put_refusal(number, task, margin, out, next)
+}
+
+// Why two periods clash, as much of it as there is room for: the header, and one record. Answers the length of the whole text.
+pub fn write_clash(reached: u32, period: u32, out: &mut [u8]) -> usize
+    ensures { λ r. ⌜ Written (clashText reached period) (now (out .entry)) (now (out .exit)) r ⌝ }
+    ensures { λ r. ⌜ r ≤ 39 ⌝ }
+{
+    let next = put_text(b"reached,period\r\n", out, 0);
+    put_pair(reached as u64, period as u64, out, next)
 }
 
 // A table, as much of it as there is room for: the header, and a record for each slice of the cycle, as far as the table

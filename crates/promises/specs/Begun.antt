@@ -50,7 +50,7 @@ pub start-accepted : (l : TaskList) (supply : ℕ) (asked : Asked) (clock : ℕ)
 unfolding begunOf begunState begunLog begunAnswer
 start-accepted l supply asked clock log log′ r begins z =
     ⊎-elim
-    (λ (h : ByBounds l supply (verdictOf l supply)). never (h .is) (λ n. let T = broken-tells l supply (h .number) (h .task) (h .broken) in T .some (sym (T .number-is) ∙ n)))
+    (λ (h : ByBounds l supply (verdictOf l supply)). never (h .is) (λ n. let T = broken-tells l supply (h .number) (h .task) (h .reached) (h .period) (h .broken) in T .some (sym (T .number-is) ∙ n)))
     (⊎-elim
     (λ (h : ForLateness l supply (verdictOf l supply)). never (h .is) (λ n. omega arith))
     (λ (h : OnTimeAll l supply (verdictOf l supply)).
@@ -69,7 +69,7 @@ start-accepted l supply asked clock log log′ r begins z =
     (verdict-tells l supply)
   where
     -- a refused list is refused by the start
-    never : {A : Type 0} {number task : ℕ} {margin : ℤ} → verdictOf l supply ≡ verdict.Refused number task margin → (number ≡ 0 → ⊥) → A
+    never : {A : Type 0} {number task reached period : ℕ} {margin : ℤ} → verdictOf l supply ≡ verdict.Refused number task margin reached period → (number ≡ 0 → ⊥) → A
     never e some = absurd (some (sym (ap (λ (x : Begun). begunAnswer x .number) (begins .answer ∙ ap (λ (v : Verdict). begunOf v (length log)) e)) ∙ z))
 
 -- ---- the jobs of a list

@@ -55,7 +55,7 @@ use Rattle.promises.specs.Demand1.{NoRun, BegunRun, RunsByTable, RunsFil
 pub build-refused : (l : TaskList) (supply : ℕ) (old new : List ℕ) (v : Verdict) → Built l supply old new v → (verdictAnswer v .number ≡ 0 → ⊥) → new ≡ old
 unfolding verdictAnswer tabled
 build-refused l supply old new (Accepted c j t m) built nz = absurd (nz refl)
-build-refused l supply old new (Refused n t m) built nz = built .bytes
+build-refused l supply old new (Refused n t m r p) built nz = built .bytes
 
 -- ---- a start
 no-run : NoRun noRun
@@ -83,7 +83,7 @@ module _ (l : TaskList) (supply : ℕ) (asked : Asked) (clock : ℕ) (log log′
           (begins .bytes ∙ ap (λ (x : Verdict). begunLog x log) q ∙ el, subst NoRun (sym (begins .state ∙ ap (λ (x : Verdict). begunState l asked clock x (length log)) q ∙ es)) no-run)
 
       go : (v : Verdict) → verdictOf l supply ≡ v → (log′ ≡ log) × NoRun (r .state)
-      go (Refused n t m) q = kept _ q refl refl
+      go (Refused n t m r p) q = kept _ q refl refl
       go (Accepted c j t m) q =
           ⊎-elim
           (λ (e : ltb (length log) j ≡ true). kept _ q (choose-yes _ _ _ e) (choose-yes _ _ _ e))

@@ -40,7 +40,7 @@ use Rattle.promises.specs.Demand2.{FirstLate, AcceptedAs, EndsAt, TableO
 module _ (l : TaskList) (supply : ℕ) (K : KeepsBounds l supply) where
   pub not-by-bounds : {A : Type 0} → ByBounds l supply (verdictOf l supply) → A
   not-by-bounds h =
-      let other : Kept (cycleOf l) (jobsOf l) ≡ Broken (h .number) (h .task) = sym (bounds-kept l supply K) ∙ h .broken in
+      let other : Kept (cycleOf l) (jobsOf l) ≡ Broken (h .number) (h .task) (h .reached) (h .period) = sym (bounds-kept l supply K) ∙ h .broken in
       let z : _≡_ {A = ℕ} 0 1 = cc in
       absurd (omega arith)
 
@@ -248,7 +248,7 @@ list-accepted l supply old new v built z = go (verdictOf l supply) refl
   where
     go : (w : Verdict) → verdictOf l supply ≡ w → verdictAnswer (verdictOf l supply) .number ≡ 0
     go (Accepted c j t m) q = ap (λ (x : Verdict). verdictAnswer x .number) q
-    go (Refused n t m) q = ap (λ (x : Verdict). verdictAnswer x .number) q ∙ sym (ap (λ (x : Verdict). verdictAnswer x .number) (built .answer ∙ ap (λ (x : Verdict). fitted x (length old)) q)) ∙ z
+    go (Refused n t m r p) q = ap (λ (x : Verdict). verdictAnswer x .number) q ∙ sym (ap (λ (x : Verdict). verdictAnswer x .number) (built .answer ∙ ap (λ (x : Verdict). fitted x (length old)) q)) ∙ z
 
 module _ (l : TaskList) (supply : ℕ) (K : KeepsBounds l supply) (old new : List ℕ) (v : Verdict) (built : Built l supply old new v) where
   built-as : verdictAnswer v .number ≡ 0 → (cycleOf l ≤ length old) × (new ≡ overwrite (table (planOf l)) (cycleOf l) old)

@@ -33,7 +33,7 @@ use Rattle.promises.specs.Begun.{accepted-starts}
 pub fitted-whole : (v : Verdict) (room : ℕ) → verdictAnswer v .cycle ≤ room → fitted v room ≡ v
 unfolding fitted verdictAnswer
 fitted-whole (Accepted cycle jobs task margin) room le = choose-no _ _ _ (le-ltb room cycle le)
-fitted-whole (Refused number task margin) room le = refl
+fitted-whole (Refused number task margin reached period) room le = refl
 
 -- What an accepted build leaves in the lent bytes is the list's own table.
 pub own-table : (l : TaskList) (supply : ℕ) (old new : List ℕ) (v : Verdict) → Built l supply old new v → verdictAnswer v .number ≡ 0 → Own (planOf l) (cycleOf l) new

@@ -10,6 +10,8 @@ pub mod RefusalsHold
 pub mod Program
 pub mod ProgramHolds
 pub mod Begun
+pub mod Clash
+pub mod ClashHolds
 pub mod Demand1
 pub mod Demand1Holds
 pub mod EmptyChamber

@@ -7,7 +7,7 @@ use native.Mathlib.Omega.{arith}
 use lib.ListN.{length}
 use Rattle.basis.specs.Choose.{le-or-lt, eq-or-ne}
 use Rattle.basis.specs.Answer.{Answer, refusal, none-number}
-use Rattle.basis.specs.Rules.{Refused, refused-not-0, breaks-rule, rule-told, breaks-naming, naming-told}
+use Rattle.basis.specs.Rules.{Refused, refused-not-0, breaks-rule, rule-told, breaks-naming, saying-told}
 use Rattle.tasks.specs.declared.TaskList.{TaskList}
 use Rattle.tasks.specs.List.{listOf}
 use Rattle.tasks.specs.Bounds.{cycleOf}
@@ -47,7 +47,7 @@ input-refused : (input text : List ℕ) → Prints input text → (a : Answer) �
 unfolding inputRules Refused refused refusal
 input-refused input text P a (inl broken) = let h = rule-told 15 _ a broken in one-output P (too-long (h .0)) ∙ ap recordOf (h .1)
 input-refused input text P a (inr (fits, inl broken)) =
-    let h = naming-told 14 _ a broken in
+    let h = saying-told 14 _ _ a broken in
     let form = h .1 .0 in
     let short : length input ≤ 4096 = ⊎-elim (λ l. l) (λ (l : 4096 < length input). absurd (fits (refusal 16 0) (breaks-rule 15 _ l))) (le-or-lt (length input) 4096) in
     one-output P (bad-line short (bad (form .before) (form .line) (form .after) (form .lines) (form .before-in-form) (form .not-in-form)) refl) ∙ ap recordOf (ap (λ (n : ℕ). refusal 15 (suc n)) (form .place) ∙ h .1 .1)

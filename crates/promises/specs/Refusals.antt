@@ -4,7 +4,8 @@ use mathlib.Core.List.{List}
 use mathlib.Core.Logic.{_⊎_}
 use Prim.Native.Nat.{ℕ, suc, _*_, _≤_, _<_}
 use lib.ListN.{length, getD}
-use Rattle.basis.specs.Rules.{Rule, rule, naming, Rules, no-more, _then_, _andThen_}
+use Rattle.basis.specs.Answer.{clash}
+use Rattle.basis.specs.Rules.{Rule, rule, saying, naming, Rules, no-more, _then_, _andThen_}
 use Rattle.tasks.specs.declared.Task.{Task}
 use Rattle.tasks.specs.declared.TaskList.{TaskList}
 use Rattle.tasks.specs.List.{taskAt, planOf}
@@ -54,16 +55,17 @@ module _ (l : TaskList) where
     pub before-within : (j : ℕ) → j < i → running (suc j) ≤ bound
     pub above : bound < running (suc i)
 
-  -- 5: memory exceeds the supply. 6: cycle above 4,096. Each names the first task where the running number does.
+  -- 5: memory exceeds the supply. 6: cycle above 4,096. Each names the first task where the running number does; 6 with the
+  -- multiple before it and its period.
   abbrev pub memory-exceeds : ℕ → Rule
   memory-exceeds supply = naming 5 (FirstAbove (memorySum (l .tasks)) supply)
 
   abbrev pub cycle-above : Rule
-  cycle-above = naming 6 (FirstAbove (multiple (l .tasks)) 4096)
+  cycle-above = saying 6 (λ i. clash (suc i) (multiple (l .tasks) i) (task i .period)) (FirstAbove (multiple (l .tasks)) 4096)
 
   -- 7: a deadline missed; names the first task that misses, with what its job had received less its run-time as the margin.
   unfoldable pub deadline-missed : Rule
-  deadline-missed = record { number = 7; broken = FirstLate (planOf l) }
+  deadline-missed = record { number = 7; broken = λ a. FirstLate (planOf l) (a .task) (a .margin) × (a .reached ≡ 0) × (a .period ≡ 0) }
 
   -- 8: table lent is shorter than the cycle. 12: log shorter than the job count.
   abbrev pub table-short : ℕ → Rule

@@ -11,20 +11,20 @@ use lib.IntN.{subℕ}
 use lib.ListN.{length, getD}
 use borrow.Author.Tests.{lt-ltb, ltb-true, eq-eqb, ne-eqb, eqb-true, eqb-false}
 use Rattle.basis.specs.Choose.{choose, both-true, choose-yes, choose-no, choose-either, of-choice, bool-cases, le-or-lt, eq-or-ne, within, within-tells, is-within}
-use Rattle.basis.specs.Answer.{Answer, alike, refusal, none, _orElse_, firstFound, none-number, else-choose, found-none, none-found}
-use Rattle.basis.specs.Rules.{rule, naming, Breaks, no-more, _then_, _andThen_, Refused, GoesBy, goes-on, goes-then, goes-as, breaks-naming, naming-told, goes-by-rule, goes-unless, first-goes}
+use Rattle.basis.specs.Answer.{Answer, alike, refusal, clash, none, _orElse_, firstFound, none-number, else-choose, found-none, none-found}
+use Rattle.basis.specs.Rules.{rule, saying, Breaks, no-more, _then_, _andThen_, Refused, GoesBy, goes-on, goes-then, goes-as, Refuses, plain-refuses, breaks-saying, breaks-naming, saying-told, goes-by-rule, goes-unless, first-goes}
 use Rattle.plan.specs.Plan.{given}
 use Rattle.plan.specs.ExactTest.{AllPass}
 use Rattle.tasks.specs.declared.Task.{Task}
 use Rattle.tasks.specs.declared.TaskList.{TaskList}
 use Rattle.tasks.specs.List.{taskAt, planOf}
 use Rattle.tasks.specs.Bounds.{multiple, memorySum, cycleOf, jobsOf, ofCount, ofNumbers, ofTask, ofMemory, ofCycle, found, boundsOf, boundsAnswer}
-use Rattle.tasks.specs.Kept.{TaskFits, one-test-none, tasks-none, nothing-found, bounds-kept, bounds-broken, found-most}
+use Rattle.tasks.specs.Kept.{TaskFits, one-test-none, tasks-none, nothing-found, bounds-kept, bounds-found}
 use Rattle.verdict.specs.declared.Verdict.{Verdict}
 use Rattle.verdict.specs.declared.Verdict.the-variants as verdict
 use Rattle.verdict.specs.Verdict.{verdictFrom, verdictOf, verdictAnswer}
 use Rattle.verdict.specs.Table.{fitted, Built}
-use Rattle.verdict.specs.Answers.{ByBounds, ForLateness, OnTimeAll, verdict-tells, accepted-as}
+use Rattle.verdict.specs.Answers.{ByBounds, ForLateness, OnTimeAll, verdict-tells, verdict-found, accepted-as}
 use Rattle.start.specs.declared.Asked.{Asked}
 use Rattle.start.specs.declared.Started.{Started}
 use Rattle.start.specs.Start.{begunOf, Begins, begunAnswer}
@@ -117,7 +117,7 @@ module _ (l : TaskList) where
         let h : RuntimeOutside l (task i) = (λ p. true≢false (sym (outside-tells 4096 (task i .period) .1 p) ∙ f), outside-tells (task i .period) (task i .runtime) .0 t) in
         inr (
           λ b breaks.
-              let other = naming-told 2 _ b breaks in
+              let other = saying-told 2 _ _ b breaks in
               let same = first-alone (PeriodOutside l) (RuntimeOutside l) period-unfit runtime-unfit (other .0) i (other .1 .0) (first (RuntimeOutside l) h) in
               h .0 (subst (λ (x : ℕ). PeriodOutside l (task x)) same (other .1 .0 .broken)),
           inl (subst (Breaks (runtime-outside l)) (sym (four h)) (breaks-naming 3 _ i (first (RuntimeOutside l) h))),
@@ -139,57 +139,65 @@ module _ (l : TaskList) where
       (λ b R.
       ⊎-elim
       (λ (breaks : Breaks (period-outside l) b).
-      let h = naming-told 2 _ b breaks in
+      let h = saying-told 2 _ _ b breaks in
       let first = h .1 .0 in
       (h .0, (first .below, fit-before (h .0) .1 (first .before-fit), three (h .0) (first .broken) ∙ h .1 .1)))
       (λ rest.
       ⊎-elim
       (λ (breaks : Breaks (runtime-outside l) b).
-      let h = naming-told 3 _ b breaks in
+      let h = saying-told 3 _ _ b breaks in
       let first = h .1 .0 in
       (h .0, (first .below, fit-before (h .0) .1 (first .before-fit), four (h .0) (first .broken) ∙ h .1 .1)))
       (λ x. absurd (x .1))
       (rest .1))
       R)
 
+  clash-refuses : (task reached period : ℕ) → Refuses 5 (clash task reached period)
+  unfolding clash
+  clash-refuses task reached period = record { number-is = refl; cycle-0 = refl; jobs-0 = refl }
+
   -- 5 and 6: a running number above a bound
-  running-goes : (q : ℕ → ℕ) (bound m : ℕ) → GoesBy (naming (suc m) (FirstAbove l q bound) then no-more) (firstFound (λ i. choose (ltb bound (q (suc i))) (refusal (suc m) (suc i)) none) (l .count))
+  running-goes : (q : ℕ → ℕ) (bound m : ℕ) (says : ℕ → Answer) → ((i : ℕ) → Refuses m (says i))
+      → GoesBy (saying (suc m) says (FirstAbove l q bound) then no-more) (firstFound (λ i. choose (ltb bound (q (suc i))) (says i) none) (l .count))
   unfolding Refused
-  running-goes q bound m =
+  running-goes q bound m says refuses =
       first-goes _ find (l .count)
       (λ i li before some.
       ⊎-elim
-      (λ (within : q (suc i) ≤ bound). absurd (some (one-test-none bound (q (suc i)) m (suc i) .1 within)))
+      (λ (within : q (suc i) ≤ bound). absurd (some (test i .1 within)))
       (λ (above : bound < q (suc i)).
-      inl (subst (Breaks (naming (suc m) (FirstAbove l q bound))) (sym (choose-yes _ _ _ (lt-ltb bound (q (suc i)) above)))
-      (breaks-naming m _ i (record { below = li; before-within = λ j lj. one-test-none bound (q (suc j)) m (suc j) .0 (found-none find i before j lj); above = above }))))
+      inl (subst (Breaks (saying (suc m) says (FirstAbove l q bound))) (sym (choose-yes _ _ _ (lt-ltb bound (q (suc i)) above)))
+      (breaks-saying m says _ i (refuses i) (record { below = li; before-within = λ j lj. test j .0 (found-none find i before j lj); above = above }))))
       (le-or-lt (q (suc i)) bound))
       (λ b R.
       ⊎-elim
-      (λ (breaks : Breaks (naming (suc m) (FirstAbove l q bound)) b).
-      let h = naming-told m _ b breaks in
+      (λ (breaks : Breaks (saying (suc m) says (FirstAbove l q bound)) b).
+      let h = saying-told m _ _ b breaks in
       let first = h .1 .0 in
-      (h .0, (first .below, none-found find (h .0) (λ j lj. one-test-none bound (q (suc j)) m (suc j) .1 (first .before-within j lj)), choose-yes _ _ _ (lt-ltb bound (q (suc (h .0))) (first .above)) ∙ h .1 .1)))
+      (h .0, (first .below, none-found find (h .0) (λ j lj. test j .1 (first .before-within j lj)), choose-yes _ _ _ (lt-ltb bound (q (suc (h .0))) (first .above)) ∙ h .1 .1)))
       (λ x. absurd (x .1))
       R)
     where
       find : ℕ → Answer
-      find i = choose (ltb bound (q (suc i))) (refusal (suc m) (suc i)) none
+      find i = choose (ltb bound (q (suc i))) (says i) none
+
+      test : (i : ℕ) → (find i .number ≡ 0) ↔ (q (suc i) ≤ bound)
+      test i = one-test-none bound (q (suc i)) (says i) (λ z. omega (arith, refuses i .number-is))
 
   found-goes : (supply : ℕ) → GoesBy (boundsRules l supply) (found l supply)
   unfolding boundsRules _andThen_ found ofMemory ofCycle
   found-goes supply =
       goes-on (no-tasks l then more-than-16 l then no-more) _ _ _ count-goes
       (λ _. goes-on (period-outside l then runtime-outside l then no-more) _ _ _ tasks-go
-      (λ _. goes-on (memory-exceeds l supply then no-more) (cycle-above l then no-more) _ _ (running-goes (memorySum (l .tasks)) supply 4)
-      (λ _. running-goes (multiple (l .tasks)) 4096 5)))
+      (λ _. goes-on (memory-exceeds l supply then no-more) (cycle-above l then no-more) _ _ (running-goes (memorySum (l .tasks)) supply 4 _ (λ i. plain-refuses 4 (suc i)))
+      (λ _. running-goes (multiple (l .tasks)) 4096 5 _ (λ i. clash-refuses (suc i) (multiple (l .tasks) i) (task i .period)))))
 
   pub bounds-go : (supply : ℕ) → GoesBy (boundsRules l supply) (boundsAnswer (boundsOf l supply))
   unfolding boundsAnswer
   bounds-go supply =
       goes-as _ (found l supply) _ (found-goes supply)
       (λ z. rw (bounds-kept l supply (nothing-found l supply .0 z)))
-      (λ nz. rw (bounds-broken l supply nz) (found-most l supply .1))
+      (bounds-found l supply)
 
 -- ---- refusals 7, 8 and 12
 module _ (l : TaskList) (supply : ℕ) where
@@ -200,13 +208,13 @@ module _ (l : TaskList) (supply : ℕ) where
   NotBounds = found l supply .number ≡ 0
 
   -- within bounds, a verdict that refuses says 7, with cycle and job count 0
-  late-or-not : NotBounds → (judged .number ≡ 0 → ⊥) → (judged .number ≡ 7) × (judged .cycle ≡ 0) × (judged .jobs ≡ 0)
+  late-or-not : NotBounds → (judged .number ≡ 0 → ⊥) → (judged .number ≡ 7) × (judged .cycle ≡ 0) × (judged .jobs ≡ 0) × (judged .reached ≡ 0) × (judged .period ≡ 0)
   unfolding verdictAnswer
   late-or-not z nz =
       ⊎-elim
       (λ (h : ByBounds l supply (verdictOf l supply)). not-by-bounds l supply (nothing-found l supply .0 z) h)
       (⊎-elim
-      (λ (h : ForLateness l supply (verdictOf l supply)). rw (h .is) (refl, refl, refl))
+      (λ (h : ForLateness l supply (verdictOf l supply)). rw (h .is) (refl, refl, refl, refl, refl))
       (λ (h : OnTimeAll l supply (verdictOf l supply)). absurd (nz (ap (λ (v : Verdict). verdictAnswer v .number) (h .is)))))
       (verdict-tells l supply)
 
@@ -217,24 +225,24 @@ module _ (l : TaskList) (supply : ℕ) where
       record {
         only = λ nz.
             let h = late-or-not z nz in
-            inl (record { number-is = h .0; not-0 = nz; broken = late-named l supply K (h .0); cycle-0 = h .1; jobs-0 = h .2 });
+            inl (record { number-is = h .0; not-0 = nz; broken = (late-named l supply K (h .0), h .3, h .4); cycle-0 = h .1; jobs-0 = h .2 });
         always = λ b R.
             ⊎-elim
             (λ (breaks : Breaks (deadline-missed l) b).
-            let late : FirstLate (planOf l) (b .task) (b .margin) = breaks .broken in
+            let late : FirstLate (planOf l) (b .task) (b .margin) = breaks .broken .0 in
             let refused : judged .number ≡ 0 → ⊥ = λ ok. late .fails-first .fails (accepted-exactly l supply K .0 ok (late .place) (late .below)) in
             let h = late-or-not z refused in
             let named = late-named l supply K (h .0) in
             let same = fails-first-alone (planOf l) (named .place) (late .place) (named .fails-first) (late .fails-first) in
             alike judged b (h .0 ∙ sym (breaks .number-is)) (named .named ∙ ap suc same ∙ sym (late .named))
-            (named .margin-is ∙ ap (λ (i : ℕ). subℕ (given (planOf l) (planOf l .runtime) i 0 (planOf l .due i)) (planOf l .runtime i 0)) same ∙ sym (late .margin-is)) (h .1 ∙ sym (breaks .cycle-0)) (h .2 ∙ sym (breaks .jobs-0)))
+            (named .margin-is ∙ ap (λ (i : ℕ). subℕ (given (planOf l) (planOf l .runtime) i 0 (planOf l .due i)) (planOf l .runtime i 0)) same ∙ sym (late .margin-is)) (h .1 ∙ sym (breaks .cycle-0)) (h .2 ∙ sym (breaks .jobs-0)) (h .3 ∙ sym (breaks .broken .1)) (h .4 ∙ sym (breaks .broken .2)))
             (λ x. absurd (x .1))
             R;
       }
 
   pub list-goes : GoesBy (listRules l supply) judged
   unfolding listRules verdictAnswer verdictOf verdictFrom refusal
-  list-goes = goes-then (boundsRules l supply) (deadline-missed l then no-more) (found l supply) judged (found-goes l supply) (λ nz. rw (bounds-broken l supply nz) (found-most l supply .1)) late-goes
+  list-goes = goes-then (boundsRules l supply) (deadline-missed l then no-more) (found l supply) judged (found-goes l supply) (verdict-found l supply) late-goes
 
   -- Building and starting refuse as the verdict does, and add a rule of their own.
   refused-kept : (room : ℕ) → (judged .number ≡ 0 → ⊥) → (fitted (verdictOf l supply) room ≡ verdictOf l supply) × (begunAnswer (begunOf (verdictOf l supply) room) ≡ judged)
@@ -243,7 +251,7 @@ module _ (l : TaskList) (supply : ℕ) where
     where
       go : (v : Verdict) → (verdictAnswer v .number ≡ 0 → ⊥) → (fitted v room ≡ v) × (begunAnswer (begunOf v room) ≡ verdictAnswer v)
       go (verdict.Accepted cycle jobs task margin) some = absurd (some refl)
-      go (verdict.Refused number task margin) some = (refl, refl)
+      go (verdict.Refused number task margin reached period) some = (refl, refl)
 
   pub build-goes : (old new : List ℕ) (v : Verdict) → Built l supply old new v → GoesBy (buildRules l supply (length old)) (verdictAnswer v)
   unfolding buildRules fitted verdictAnswer refusal

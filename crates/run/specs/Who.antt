@@ -72,5 +72,5 @@ whoOf s table = answered (whoRefusal s table) (running s table)
 -- The paper's values of each case. Refused, it answers task 0.
 unfoldable pub runnerAnswer : Runner → Answer
 runnerAnswer Idle = none
-runnerAnswer (Task n) = record { number = 0; task = n; margin = pos 0; cycle = 0; jobs = 0 }
+runnerAnswer (Task n) = record { number = 0; task = n; margin = pos 0; cycle = 0; jobs = 0; reached = 0; period = 0 }
 runnerAnswer (Refused n) = refusal n 0

@@ -62,11 +62,21 @@ fn say_part(number: u32) {
     }
 }
 
-fn say_refusal(number: u32, task: usize, margin: i32) {
+// Why two periods clash; nothing of any other refusal.
+fn say_clash(number: u32, reached: u32, period: u32) {
+    if number != 6 {
+        return;
+    }
+    say_number(b", multiple before it ", reached as u64);
+    say_number(b", its period ", period as u64);
+}
+
+fn say_refusal(number: u32, task: usize, margin: i32, reached: u32, period: u32) {
     say_number(b"refusal ", number as u64);
     say_part(number);
     say_number(b", task ", task as u64);
     say_margin(b", margin ", margin);
+    say_clash(number, reached, period);
     say(b"\n");
 }
 
@@ -76,7 +86,9 @@ fn say_not_built(built: Verdict) {
             number,
             task,
             margin,
-        } => say_refusal(number, task, margin),
+            reached,
+            period,
+        } => say_refusal(number, task, margin, reached, period),
         _ => {}
     }
 }
@@ -87,7 +99,9 @@ fn say_not_begun(begun: Begun) {
             number,
             task,
             margin,
-        } => say_refusal(number, task, margin),
+            reached,
+            period,
+        } => say_refusal(number, task, margin, reached, period),
         _ => {}
     }
 }

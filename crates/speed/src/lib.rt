@@ -11,13 +11,15 @@ use tasks::Task;
 use tasks::TaskList;
 use verdict::Verdict;
 
-// A verdict or a start in numbers: refusal number (0: accepted), margin, cycle, job count and task.
+// A verdict or a start in numbers: refusal number (0: accepted), margin, cycle, job count, clash and task.
 #[repr(C)]
 pub struct Answer {
     pub number: u32,
     pub margin: i32,
     pub cycle: u32,
     pub jobs: u32,
+    pub reached: u32,
+    pub period: u32,
     pub task: usize,
 }
 
@@ -72,17 +74,23 @@ fn of_verdict(verdict: Verdict) -> Answer {
             margin,
             cycle,
             jobs,
+            reached: 0,
+            period: 0,
             task,
         },
         Verdict::Refused {
             number,
             task,
             margin,
+            reached,
+            period,
         } => Answer {
             number,
             margin,
             cycle: 0,
             jobs: 0,
+            reached,
+            period,
             task,
         },
     }
@@ -128,17 +136,23 @@ pub extern "C" fn speed_start(
             margin: 0,
             cycle,
             jobs: 0,
+            reached: 0,
+            period: 0,
             task: 0,
         },
         Begun::Refused {
             number,
             task,
             margin,
+            reached,
+            period,
         } => Answer {
             number,
             margin,
             cycle,
             jobs: 0,
+            reached,
+            period,
             task,
         },
     }

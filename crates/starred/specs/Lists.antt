@@ -23,10 +23,10 @@ unfoldable pub entries : List Task → ℕ → List ℕ
 entries ts n = tabled (listOf ts) (verdictOf (listOf ts) 0) (replicate n 255)
 
 unfoldable pub accepted : ℕ → ℤ → ℕ → ℕ → Answer
-accepted task margin cycle jobs = record { number = 0; task = task; margin = margin; cycle = cycle; jobs = jobs }
+accepted task margin cycle jobs = record { number = 0; task = task; margin = margin; cycle = cycle; jobs = jobs; reached = 0; period = 0 }
 
 unfoldable pub late : ℕ → ℤ → Answer
-late task margin = record { number = 7; task = task; margin = margin; cycle = 0; jobs = 0 }
+late task margin = record { number = 7; task = task; margin = margin; cycle = 0; jobs = 0; reached = 0; period = 0 }
 
 unfoldable pub A : List Task
 A = task 4 1 ∷ task 6 2 ∷ task 12 3 ∷ []

@@ -22,11 +22,11 @@ few-tasks l supply v ev cycle jobs task margin e = accepted-tells l supply cycle
 
 module _ (l : TaskList) (supply : ℕ) (asked : Asked) (clock : ℕ) (log : List ℕ) (v : Verdict) (ev : v ≡ verdictOf l supply) where
   -- A list that is refused,
-  pub refused-begins : (number task : ℕ) (margin said : ℤ) (s : State) → v ≡ verdict.Refused number task margin → said ≡ margin → s ≡ noRun
-      → Begins l supply asked clock log log (record { answer = begun.Refused number task said; state = s })
+  pub refused-begins : (number task reached period : ℕ) (margin said : ℤ) (s : State) → v ≡ verdict.Refused number task margin reached period → said ≡ margin → s ≡ noRun
+      → Begins l supply asked clock log log (record { answer = begun.Refused number task said reached period; state = s })
   unfolding begunOf begunState begunLog
-  refused-begins number task margin said s e em en =
-      let same : verdictOf l supply ≡ verdict.Refused number task said = sym ev ∙ e ∙ ap (verdict.Refused number task) (sym em) in
+  refused-begins number task reached period margin said s e em en =
+      let same : verdictOf l supply ≡ verdict.Refused number task said reached period = sym ev ∙ e ∙ ap (λ (m : ℤ). verdict.Refused number task m reached period) (sym em) in
       record {
         answer = sym (ap (λ (x : Verdict). begunOf x (length log)) same);
         state = en ∙ sym (ap (λ (x : Verdict). begunState l asked clock x (length log)) same);
@@ -39,7 +39,7 @@ module _ (l : TaskList) (supply : ℕ) (asked : Asked) (clock : ℕ) (log : List
 
     -- an accepted one whose log is too short,
     pub short-begins : (s : State) → length log < jobs → s ≡ noRun
-        → Begins l supply asked clock log log (record { answer = begun.Refused 12 0 (pos 0); state = s })
+        → Begins l supply asked clock log log (record { answer = begun.Refused 12 0 (pos 0) 0 0; state = s })
     unfolding begunOf begunState begunLog
     short-begins s lt en = record {
       answer = sym (ap (λ (x : Verdict). begunOf x (length log)) same ∙ choose-yes _ _ _ (lt-ltb (length log) jobs lt));

@@ -62,16 +62,16 @@ noRun =
 
 -- ---- the answer: refusals 1 to 7 as the verdict gives them, then 12: log shorter than the job count
 unfoldable pub begunOf : Verdict → ℕ → Begun
-begunOf (verdict.Refused number task margin) room = begun.Refused number task margin
-begunOf (verdict.Accepted cycle jobs task margin) room = choose (ltb room jobs) (begun.Refused 12 0 (pos 0)) begun.Accepted
+begunOf (verdict.Refused number task margin reached period) room = begun.Refused number task margin reached period
+begunOf (verdict.Accepted cycle jobs task margin) room = choose (ltb room jobs) (begun.Refused 12 0 (pos 0) 0 0) begun.Accepted
 
 unfoldable pub begunState : TaskList → Asked → ℕ → Verdict → ℕ → State
-begunState l asked clock (verdict.Refused number task margin) room = noRun
+begunState l asked clock (verdict.Refused number task margin reached period) room = noRun
 begunState l asked clock (verdict.Accepted cycle jobs task margin) room = choose (ltb room jobs) noRun (startState l cycle (modeOf asked) clock)
 
 -- It writes 0 into the first job-count bytes of the log. Refused, it writes nothing.
 unfoldable pub begunLog : Verdict → List ℕ → List ℕ
-begunLog (verdict.Refused number task margin) log = log
+begunLog (verdict.Refused number task margin reached period) log = log
 begunLog (verdict.Accepted cycle jobs task margin) log = choose (ltb (length log) jobs) log (overwrite (λ _. 0) jobs log)
 
 pub record Begins (l : TaskList) (supply : ℕ) (asked : Asked) (clock : ℕ) (log log′ : List ℕ) (r : Started) : Type 0 where
@@ -82,4 +82,4 @@ pub record Begins (l : TaskList) (supply : ℕ) (asked : Asked) (clock : ℕ) (l
 -- The paper's values of each case.
 unfoldable pub begunAnswer : Begun → Answer
 begunAnswer begun.Accepted = none
-begunAnswer (begun.Refused number task margin) = record { number = number; task = task; margin = margin; cycle = 0; jobs = 0 }
+begunAnswer (begun.Refused number task margin reached period) = record { number = number; task = task; margin = margin; cycle = 0; jobs = 0; reached = reached; period = period }

@@ -18,13 +18,15 @@ pub enum Asked {
     Unnamed,
 }
 
-// What a start comes to. A refusal names the task and carries the margin as a verdict does.
+// What a start comes to. A refusal names the task and carries margin and clash as a verdict does.
 pub enum Begun {
     Accepted,
     Refused {
         number: u32,
         task: usize,
         margin: i32,
+        reached: u32,
+        period: u32,
     },
 }
 
@@ -98,12 +100,16 @@ pub fn start(list: TaskList, supply: u32, asked: Asked, clock: u32, log: &mut [u
             number,
             task,
             margin,
+            reached,
+            period,
         } => {
             return Started {
                 answer: Begun::Refused {
                     number,
                     task,
                     margin,
+                    reached,
+                    period,
                 },
                 state: no_run(),
             };
@@ -120,6 +126,8 @@ pub fn start(list: TaskList, supply: u32, asked: Asked, clock: u32, log: &mut [u
                         number: 12,
                         task: 0,
                         margin: 0,
+                        reached: 0,
+                        period: 0,
                     },
                     state: no_run(),
                 };

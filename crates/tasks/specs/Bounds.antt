@@ -7,11 +7,13 @@ use lib.Dec.{ltb, eqb}
 use lib.IntN.{pos}
 use Rattle.basis.specs.Choose.{choose, within}
 use Rattle.basis.specs.Sum.{sum}
-use Rattle.basis.specs.Answer.{Answer, refusal, none, _orElse_, firstFound}
+use Rattle.basis.specs.Answer.{Answer, refusal, clash, none, _orElse_, firstFound}
 use Rattle.tasks.specs.declared.Task.{Task}
 use Rattle.tasks.specs.declared.TaskList.{TaskList}
 use Rattle.tasks.specs.declared.Bounds.{Bounds}
 use Rattle.tasks.specs.declared.Bounds.the-variants.{Kept, Broken}
+use Rattle.tasks.specs.declared.Multiple.{Multiple}
+use Rattle.tasks.specs.declared.Multiple.the-variants.{Reached, GivenUp}
 use Rattle.tasks.specs.List.{taskAt}
 use Rattle.tasks.specs.Euclid.{lcmOf}
 
@@ -52,9 +54,16 @@ ofTask ts i = ofNumbers (taskAt ts i .period) (taskAt ts i .runtime) (suc i)
 unfoldable pub ofMemory : List Task → ℕ → ℕ → Answer
 ofMemory ts supply i = choose (ltb supply (memorySum ts (suc i))) (refusal 5 (suc i)) none
 
--- 6: cycle above 4,096; names the first task where the running multiple is.
+-- 6: cycle above 4,096; names the first task where the running multiple is, with the multiple before it and its period.
 unfoldable pub ofCycle : List Task → ℕ → Answer
-ofCycle ts i = choose (ltb 4096 (multiple ts (suc i))) (refusal 6 (suc i)) none
+ofCycle ts i = choose (ltb 4096 (multiple ts (suc i))) (clash (suc i) (multiple ts i) (taskAt ts i .period)) none
+
+-- The least common multiple of the first n periods with its job count; or where it was given up, and why.
+unfoldable pub reachedOr : Answer → ℕ → ℕ → Multiple
+reachedOr f multiple jobs = choose (eqb (f .number) 0) (Reached multiple jobs) (GivenUp (f .task) (f .reached) (f .period))
+
+unfoldable pub multiplied : List Task → ℕ → Multiple
+multiplied ts n = reachedOr (firstFound (ofCycle ts) n) (multiple ts n) (jobSum ts (multiple ts n) n)
 
 -- Lists go 1, 2, then 3 and 4 task by task, then 5, then 6.
 unfoldable pub found : TaskList → ℕ → Answer
@@ -66,12 +75,12 @@ found l supply =
 
 -- The answer: the refusal found, or else cycle and job count.
 unfoldable pub answer : Answer → ℕ → ℕ → Bounds
-answer f cycle jobs = choose (eqb (f .number) 0) (Kept cycle jobs) (Broken (f .number) (f .task))
+answer f cycle jobs = choose (eqb (f .number) 0) (Kept cycle jobs) (Broken (f .number) (f .task) (f .reached) (f .period))
 
 unfoldable pub boundsOf : TaskList → ℕ → Bounds
 boundsOf l supply = answer (found l supply) (cycleOf l) (jobsOf l)
 
 -- The paper's values of each case.
 unfoldable pub boundsAnswer : Bounds → Answer
-boundsAnswer (Kept cycle jobs) = record { number = 0; task = 0; margin = pos 0; cycle = cycle; jobs = jobs }
-boundsAnswer (Broken number task) = refusal number task
+boundsAnswer (Kept cycle jobs) = record { number = 0; task = 0; margin = pos 0; cycle = cycle; jobs = jobs; reached = 0; period = 0 }
+boundsAnswer (Broken number task reached period) = record { number = number; task = task; margin = pos 0; cycle = 0; jobs = 0; reached = reached; period = period }

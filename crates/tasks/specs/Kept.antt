@@ -10,14 +10,15 @@ use lib.Dec.{ltb, eqb}
 use borrow.Author.Tests.{le-ltb, ltb-false, eq-eqb, ne-eqb, eqb-false, not-false}
 use Rattle.basis.specs.Choose.{choose, choose-yes, choose-no, choose-either, eq-or-ne, below-suc, within, within-tells, is-within}
 use Rattle.basis.specs.Sum.{sum-grows}
-use Rattle.basis.specs.Answer.{Answer, refusal, none, _orElse_, firstFound, else-none, none-else, found-none, none-found, passed-if, none-number}
+use lib.IntN.{pos}
+use Rattle.basis.specs.Answer.{Answer, refusal, none, _orElse_, firstFound, else-none, none-else, found-none, none-found, passed-if, passed-by, alike, first-all, clash, none-number}
 use Rattle.tasks.specs.declared.Task.{Task}
 use Rattle.tasks.specs.declared.TaskList.{TaskList}
 use Rattle.plan.specs.Plan.{Sound, Monotonic}
 use Rattle.tasks.specs.declared.Bounds.the-variants.{Kept, Broken}
 use Rattle.tasks.specs.List.{taskAt, planOf}
 use Rattle.tasks.specs.Euclid.{LeastCommonMultiple, lcm-is-least, lcm-pos}
-use Rattle.tasks.specs.Bounds.{multiple, memorySum, cycleOf, jobsOf, answer, boundsOf, ofCount, ofNumbers, ofTask, ofMemory, ofCycle, found}
+use Rattle.tasks.specs.Bounds.{boundsAnswer, multiple, memorySum, cycleOf, jobsOf, answer, boundsOf, ofCount, ofNumbers, ofTask, ofMemory, ofCycle, found}
 
 -- ---- refusals 1 to 4
 -- Period 1 to 4,096. Run-time 1 to the period.
@@ -70,8 +71,8 @@ of-task-none ts i = (
     r = taskAt ts i .runtime
 
 -- Refusals 5 and 6 come from one test each.
-pub one-test-none : (a b n t : ℕ) → (choose (ltb a b) (refusal (suc n) t) none .number ≡ 0) ↔ (b ≤ a)
-one-test-none a b n t = (λ z. ltb-false a b (passed-if (ltb a b) n t none .0 z .0), λ h. passed-if (ltb a b) n t none .1 (le-ltb a b h, none-number))
+pub one-test-none : (a b : ℕ) (x : Answer) → (x .number ≡ 0 → ⊥) → (choose (ltb a b) x none .number ≡ 0) ↔ (b ≤ a)
+one-test-none a b x some = (λ z. ltb-false a b (passed-by (ltb a b) x none some .0 z .0), λ h. passed-by (ltb a b) x none some .1 (le-ltb a b h, none-number))
 
 -- ---- the running multiple
 module _ (ts : List Task) where
@@ -112,12 +113,12 @@ module _ (ts : List Task) where
 
 -- ---- nothing is found exactly in a list that keeps all bounds
 -- A running sum or multiple that only grows is nowhere above a bound exactly if its last value is not.
-running-none : (q : ℕ → ℕ) (a m n : ℕ) → 1 ≤ n → ((i : ℕ) → i ≤ n → q i ≤ q n)
-    → (firstFound (λ i. choose (ltb a (q (suc i))) (refusal (suc m) (suc i)) none) n .number ≡ 0) ↔ (q n ≤ a)
-running-none q a m zero p grows = absurd (omega arith)
-running-none q a m (suc n) p grows = (
-  λ z. one-test-none a (q (suc n)) m (suc n) .0 (found-none (λ i. choose (ltb a (q (suc i))) (refusal (suc m) (suc i)) none) (suc n) z n (omega arith)),
-  λ h. none-found (λ i. choose (ltb a (q (suc i))) (refusal (suc m) (suc i)) none) (suc n) (λ i li. one-test-none a (q (suc i)) m (suc i) .1 (omega (arith, grows (suc i) li))),
+running-none : (q : ℕ → ℕ) (a : ℕ) (says : ℕ → Answer) → ((i : ℕ) → says i .number ≡ 0 → ⊥) → (n : ℕ) → 1 ≤ n → ((i : ℕ) → i ≤ n → q i ≤ q n)
+    → (firstFound (λ i. choose (ltb a (q (suc i))) (says i) none) n .number ≡ 0) ↔ (q n ≤ a)
+running-none q a says some zero p grows = absurd (omega arith)
+running-none q a says some (suc n) p grows = (
+  λ z. one-test-none a (q (suc n)) (says n) (some n) .0 (found-none (λ i. choose (ltb a (q (suc i))) (says i) none) (suc n) z n (omega arith)),
+  λ h. none-found (λ i. choose (ltb a (q (suc i))) (says i) none) (suc n) (λ i li. one-test-none a (q (suc i)) (says i) (some i) .1 (omega (arith, grows (suc i) li))),
 )
 
 module _ (l : TaskList) (supply : ℕ) where
@@ -128,12 +129,12 @@ module _ (l : TaskList) (supply : ℕ) where
   )
 
   memory-none : 1 ≤ l .count → (firstFound (ofMemory (l .tasks) supply) (l .count) .number ≡ 0) ↔ (memorySum (l .tasks) (l .count) ≤ supply)
-  unfolding ofMemory memorySum
-  memory-none p = running-none (memorySum (l .tasks)) supply 4 (l .count) p (λ i li. sum-grows (λ j. taskAt (l .tasks) j .memory) i (l .count) li)
+  unfolding ofMemory memorySum refusal
+  memory-none p = running-none (memorySum (l .tasks)) supply _ (λ i z. omega arith) (l .count) p (λ i li. sum-grows (λ j. taskAt (l .tasks) j .memory) i (l .count) li)
 
   cycle-none : 1 ≤ l .count → PeriodsPos (l .tasks) (l .count) → (firstFound (ofCycle (l .tasks)) (l .count) .number ≡ 0) ↔ (cycleOf l ≤ 4096)
-  unfolding ofCycle cycleOf
-  cycle-none p h = running-none (multiple (l .tasks)) 4096 5 (l .count) p (λ i li. multiple-grows (l .tasks) i (l .count) h li)
+  unfolding ofCycle cycleOf clash
+  cycle-none p h = running-none (multiple (l .tasks)) 4096 _ (λ i z. omega arith) (l .count) p (λ i li. multiple-grows (l .tasks) i (l .count) h li)
 
   pub nothing-found : (found l supply .number ≡ 0) ↔ KeepsBounds l supply
   unfolding found
@@ -198,7 +199,7 @@ pub bounds-kept : (l : TaskList) (supply : ℕ) → KeepsBounds l supply → bou
 unfolding boundsOf answer
 bounds-kept l supply K = choose-yes (eqb (found l supply .number) 0) _ _ (eq-eqb (found l supply .number) 0 (nothing-found l supply .1 K))
 
-pub bounds-broken : (l : TaskList) (supply : ℕ) → (found l supply .number ≡ 0 → ⊥) → boundsOf l supply ≡ Broken (found l supply .number) (found l supply .task)
+pub bounds-broken : (l : TaskList) (supply : ℕ) → (found l supply .number ≡ 0 → ⊥) → boundsOf l supply ≡ Broken (found l supply .number) (found l supply .task) (found l supply .reached) (found l supply .period)
 unfolding boundsOf answer
 bounds-broken l supply nz = choose-no (eqb (found l supply .number) 0) _ _ (ne-eqb (found l supply .number) 0 nz)
 
@@ -215,23 +216,30 @@ kept-tells l supply cycle jobs e =
     let same : Kept cycle jobs ≡ Kept (cycleOf l) (jobsOf l) = sym e ∙ bounds-kept l supply K in
     record { keeps = K; cycle-is = cc; jobs-is = cc })
     (λ (nz : found l supply .number ≡ 0 → ⊥).
-    let never : Kept cycle jobs ≡ Broken (found l supply .number) (found l supply .task) = sym e ∙ bounds-broken l supply nz in
+    let never : Kept cycle jobs ≡ Broken (found l supply .number) (found l supply .task) (found l supply .reached) (found l supply .period) = sym e ∙ bounds-broken l supply nz in
     let z : _≡_ {A = ℕ} 0 1 = cc in
     absurd (omega arith))
     (eq-or-ne (found l supply .number) 0)
 
--- ---- the numbers of refusal here are 1 to 6, with margin 0
-abbrev pub UpTo6 : Answer → Type 0
-UpTo6 f = (f .number ≤ 6) × (refusal (f .number) (f .task) ≡ f)
+-- ---- the numbers of refusal here are 1 to 6, with margin 0, and only 6 says why
+pub record UpTo6 (f : Answer) : Type 0 where
+  pub to-6 : f .number ≤ 6
+  pub margin-0 : f .margin ≡ pos 0
+  pub cycle-0 : f .cycle ≡ 0
+  pub jobs-0 : f .jobs ≡ 0
+  pub no-clash : (f .number ≡ 6 → ⊥) → (f .reached ≡ 0) × (f .period ≡ 0)
 
 plain-to-6 : (n t : ℕ) → n ≤ 6 → UpTo6 (refusal n t)
 unfolding refusal
-plain-to-6 n t l = (l, refl)
+plain-to-6 n t l = record { to-6 = l; margin-0 = refl; cycle-0 = refl; jobs-0 = refl; no-clash = λ _. (refl, refl) }
+
+clash-to-6 : (t r p : ℕ) → UpTo6 (clash t r p)
+unfolding clash
+clash-to-6 t r p = record { to-6 = omega arith; margin-0 = refl; cycle-0 = refl; jobs-0 = refl; no-clash = λ not-so. absurd (not-so refl) }
 
 first-to-6 : (find : ℕ → Answer) → ((i : ℕ) → UpTo6 (find i)) → (n : ℕ) → UpTo6 (firstFound find n)
-unfolding firstFound _orElse_ none
-first-to-6 find h zero = plain-to-6 0 0 (omega arith)
-first-to-6 find h (suc n) = choose-either UpTo6 _ _ _ (h n) (first-to-6 find h n)
+unfolding none
+first-to-6 = first-all UpTo6 (plain-to-6 0 0 (omega arith))
 
 pub found-most : (l : TaskList) (supply : ℕ) → UpTo6 (found l supply)
 unfolding found _orElse_ ofCount ofTask ofNumbers ofMemory ofCycle none
@@ -239,28 +247,33 @@ found-most l supply =
     choose-either UpTo6 _ _ _
     (choose-either UpTo6 _ _ _
     (choose-either UpTo6 _ _ _
-    (first-to-6 _ (λ i. choose-either UpTo6 _ _ _ (plain-to-6 _ _ (omega arith)) (plain-to-6 _ _ (omega arith))) (l .count))
+    (first-to-6 _ (λ i. choose-either UpTo6 _ _ _ (clash-to-6 _ _ _) (plain-to-6 _ _ (omega arith))) (l .count))
     (first-to-6 _ (λ i. choose-either UpTo6 _ _ _ (plain-to-6 _ _ (omega arith)) (plain-to-6 _ _ (omega arith))) (l .count)))
     (first-to-6 _ (λ i. choose-either UpTo6 _ _ _ (plain-to-6 _ _ (omega arith)) (choose-either UpTo6 _ _ _ (plain-to-6 _ _ (omega arith)) (plain-to-6 _ _ (omega arith)))) (l .count)))
     (choose-either UpTo6 _ _ _ (plain-to-6 _ _ (omega arith)) (choose-either UpTo6 _ _ _ (plain-to-6 _ _ (omega arith)) (plain-to-6 _ _ (omega arith))))
 
 -- A broken bound is answered by what is found.
-pub record BrokenAs (l : TaskList) (supply number task : ℕ) : Type 0 where
+pub bounds-found : (l : TaskList) (supply : ℕ) → (found l supply .number ≡ 0 → ⊥) → boundsAnswer (boundsOf l supply) ≡ found l supply
+unfolding boundsAnswer
+bounds-found l supply nz =
+    let h = found-most l supply in
+    ap boundsAnswer (bounds-broken l supply nz) ∙ alike _ (found l supply) refl refl (sym (h .margin-0)) (sym (h .cycle-0)) (sym (h .jobs-0)) refl refl
+
+pub record BrokenAs (l : TaskList) (supply number : ℕ) : Type 0 where
   pub some : found l supply .number ≡ 0 → ⊥
   pub number-is : number ≡ found l supply .number
-  pub task-is : task ≡ found l supply .task
 
-pub broken-tells : (l : TaskList) (supply number task : ℕ) → boundsOf l supply ≡ Broken number task → BrokenAs l supply number task
-broken-tells l supply number task e =
+pub broken-tells : (l : TaskList) (supply number task reached period : ℕ) → boundsOf l supply ≡ Broken number task reached period → BrokenAs l supply number
+broken-tells l supply number task reached period e =
     ⊎-elim
     (λ (z : found l supply .number ≡ 0).
-    let never : Broken number task ≡ Kept (cycleOf l) (jobsOf l) = sym e ∙ bounds-kept l supply (nothing-found l supply .0 z) in
+    let never : Broken number task reached period ≡ Kept (cycleOf l) (jobsOf l) = sym e ∙ bounds-kept l supply (nothing-found l supply .0 z) in
     let zero-one : _≡_ {A = ℕ} 0 1 = cc in
     absurd (omega arith))
     (λ (nz : found l supply .number ≡ 0 → ⊥).
-    let same : Broken number task ≡ Broken (found l supply .number) (found l supply .task) = sym e ∙ bounds-broken l supply nz in
-    record { some = nz; number-is = cc; task-is = cc })
+    let same : Broken number task reached period ≡ Broken (found l supply .number) (found l supply .task) (found l supply .reached) (found l supply .period) = sym e ∙ bounds-broken l supply nz in
+    record { some = nz; number-is = cc })
     (eq-or-ne (found l supply .number) 0)
 
-pub broken-number : (l : TaskList) (supply number task : ℕ) → boundsOf l supply ≡ Broken number task → number ≤ 6
-broken-number l supply number task e = omega (arith, broken-tells l supply number task e .number-is, found-most l supply .0)
+pub broken-number : (l : TaskList) (supply number task reached period : ℕ) → boundsOf l supply ≡ Broken number task reached period → number ≤ 6
+broken-number l supply number task reached period e = omega (arith, broken-tells l supply number task reached period e .number-is, found-most l supply .to-6)

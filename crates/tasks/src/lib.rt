@@ -5,8 +5,8 @@ ghost use Rattle.basis.specs.Choose.{within};
 ghost use Rattle.basis.specs.Answer.{_orElse_, firstFound};
 ghost use Rattle.tasks.specs.List.{dueOf, keyOf, runtimeOf};
 ghost use Rattle.tasks.specs.Euclid.{gcdOf, lcmOf};
-ghost use Rattle.tasks.specs.Bounds.{ofNumbers, ofTask, ofMemory, boundsOf};
-ghost use Rattle.tasks.specs.Shapes.{asAnswer, Finds, Multiplies};
+ghost use Rattle.tasks.specs.Bounds.{ofNumbers, ofTask, ofMemory, multiplied, boundsOf};
+ghost use Rattle.tasks.specs.Shapes.{asAnswer, Finds};
 ghost use Rattle.tasks.specs.Kept.{AllFit};
 
 // Period and run-time in slices, sample memory in words.
@@ -49,10 +49,19 @@ struct Finding {
     task: usize,
 }
 
-// What the checks of a list's bounds come to.
+// What the checks of a list's bounds come to. Refusal 6 says why: the multiple reached before the task, and the task's period,
+// which brings it above 4,096; of any other both are 0.
 pub enum Bounds {
-    Kept { cycle: u32, jobs: u32 },
-    Broken { number: u32, task: usize },
+    Kept {
+        cycle: u32,
+        jobs: u32,
+    },
+    Broken {
+        number: u32,
+        task: usize,
+        reached: u32,
+        period: u32,
+    },
 }
 
 // The greatest common divisor by Euclid's rule: the second number falls at each call.
@@ -128,16 +137,23 @@ fn of_tasks(list: TaskList, supply: u32) -> Finding
     Finding { number: 0, task: 0 }
 }
 
-// The multiple of the periods with its job count, and the first task that takes it above 4,096.
-struct Running {
-    multiple: u32,
-    jobs: u32,
-    found: Finding,
+// What the periods come to: their least common multiple with its job count; or it was given up at a task, with the multiple
+// reached before it and the task's period, which brings it above 4,096.
+enum Multiple {
+    Reached {
+        multiple: u32,
+        jobs: u32,
+    },
+    GivenUp {
+        task: usize,
+        reached: u32,
+        period: u32,
+    },
 }
 
-fn of_cycle(list: TaskList) -> Running
+fn of_cycle(list: TaskList) -> Multiple
     requires { ⌜ AllFit list ⌝ }
-    ensures { λ r. ⌜ Multiplies (list .tasks) (list .count) r ⌝ }
+    ensures { λ r. ⌜ r ≡ multiplied (list .tasks) (list .count) ⌝ }
 {
     let tasks = list.tasks;
     let mut multiple: u32 = 1;
@@ -146,13 +162,10 @@ fn of_cycle(list: TaskList) -> Running
         let t = tasks[i];
         let next = lcm(multiple, t.period);
         if 4096 < next {
-            return Running {
-                multiple,
-                jobs: 0,
-                found: Finding {
-                    number: 6,
-                    task: i + 1,
-                },
+            return Multiple::GivenUp {
+                task: i + 1,
+                reached: multiple,
+                period: t.period,
             };
         }
         multiple = next as u32;
@@ -166,19 +179,17 @@ fn of_cycle(list: TaskList) -> Running
         jobs += multiple / t.period;
         j += 1;
     }
-    Running {
-        multiple,
-        jobs,
-        found: Finding { number: 0, task: 0 },
-    }
+    Multiple::Reached { multiple, jobs }
 }
 
 fn broken(found: Finding) -> Bounds
-    ensures { λ r. ⌜ r ≡ Bounds.Broken (found .number) (found .task) ⌝ }
+    ensures { λ r. ⌜ r ≡ Bounds.Broken (found .number) (found .task) 0 0 ⌝ }
 {
     Bounds::Broken {
         number: found.number,
         task: found.task,
+        reached: 0,
+        period: 0,
     }
 }
 
@@ -187,22 +198,29 @@ pub fn check_bounds(list: TaskList, supply: u32) -> Bounds
     ensures { λ r. ⌜ r ≡ boundsOf list supply ⌝ }
 {
     if list.count == 0 {
-        return Bounds::Broken { number: 1, task: 0 };
+        return broken(Finding { number: 1, task: 0 });
     }
     if 16 < list.count {
-        return Bounds::Broken { number: 2, task: 0 };
+        return broken(Finding { number: 2, task: 0 });
     }
     let fit = of_tasks(list, supply);
     if fit.number != 0 {
         return broken(fit);
     }
-    let run = of_cycle(list);
-    let over = run.found;
-    if over.number != 0 {
-        return broken(over);
-    }
-    Bounds::Kept {
-        cycle: run.multiple,
-        jobs: run.jobs,
+    match of_cycle(list) {
+        Multiple::Reached { multiple, jobs } => Bounds::Kept {
+            cycle: multiple,
+            jobs,
+        },
+        Multiple::GivenUp {
+            task,
+            reached,
+            period,
+        } => Bounds::Broken {
+            number: 6,
+            task,
+            reached,
+            period,
+        },
     }
 }

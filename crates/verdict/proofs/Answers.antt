@@ -37,7 +37,7 @@ module _ (l : TaskList) (cycle jobs : ℕ) (r : Verdict) (is-judged : r ≡ judg
   unfolding judged
   is-accepted none = is-judged ∙ choose-yes _ _ _ (eq-eqb late-task 0 none)
 
-  is-refused : (late-task ≡ 0 → ⊥) → r ≡ Refused 7 late-task (subℕ 0 (lateness (planOf l) cycle .short))
+  is-refused : (late-task ≡ 0 → ⊥) → r ≡ Refused 7 late-task (subℕ 0 (lateness (planOf l) cycle .short)) 0 0
   unfolding judged
   is-refused some = is-judged ∙ choose-no _ _ _ (ne-eqb late-task 0 some)
 
@@ -49,9 +49,9 @@ module _ (l : TaskList) (cycle jobs : ℕ) (r : Verdict) (is-judged : r ≡ judg
       (eq-or-ne late-task 0)
 
   module _ (old : List ℕ) where
-    pub settled-refused : (number task : ℕ) (m : ℤ) → r ≡ Refused number task m → Settled l cycle jobs old old r
+    pub settled-refused : (number task : ℕ) (m : ℤ) (reached period : ℕ) → r ≡ Refused number task m reached period → Settled l cycle jobs old old r
     unfolding fitted tabled
-    settled-refused number task m q = record { answer = is-judged; bytes = ap (λ (x : Verdict). tabled l (fitted x (length old)) old) (sym q) }
+    settled-refused number task m reached period q = record { answer = is-judged; bytes = ap (λ (x : Verdict). tabled l (fitted x (length old)) old) (sym q) }
 
     pub settled-short : length old < cycle → Settled l cycle jobs old old r
     unfolding fitted tabled
@@ -83,9 +83,10 @@ module _ (l : TaskList) (cycle jobs : ℕ) (r : Verdict) (is-judged : r ≡ judg
 -- ---- the verdict
 module _ (l : TaskList) (supply : ℕ) (old : List ℕ) where
   -- A bound is broken,
-  pub settle-broken : (number task : ℕ) → boundsOf l supply ≡ Broken number task → (Refused number task (pos 0) ≡ verdictOf l supply) × (old ≡ tabled l (fitted (Refused number task (pos 0)) (length old)) old)
+  pub settle-broken : (number task reached period : ℕ) → boundsOf l supply ≡ Broken number task reached period
+      → (Refused number task (pos 0) reached period ≡ verdictOf l supply) × (old ≡ tabled l (fitted (Refused number task (pos 0) reached period) (length old)) old)
   unfolding verdictOf verdictFrom fitted tabled
-  settle-broken number task e = (sym (ap (verdictFrom l) e), refl)
+  settle-broken number task reached period e = (sym (ap (verdictFrom l) e), refl)
 
   module _ (cycle jobs : ℕ) (e : boundsOf l supply ≡ Kept cycle jobs) where
     -- or all are kept: the list is as the private contracts ask.
@@ -101,14 +102,14 @@ module _ (l : TaskList) (supply : ℕ) (old new : List ℕ) (v : Verdict) (S : (
   built : (r : Verdict) → r ≡ fitted v (length old) → Built l supply old new r
   built r e = record { answer = e ∙ ap (λ (x : Verdict). fitted x (length old)) (S .0); bytes = S .1 ∙ ap (λ (x : Verdict). tabled l x old) (sym e) }
 
-  pub built-refused : (number task : ℕ) (m : ℤ) → v ≡ Refused number task m → Built l supply old new v
+  pub built-refused : (number task : ℕ) (m : ℤ) (reached period : ℕ) → v ≡ Refused number task m reached period → Built l supply old new v
   unfolding fitted
-  built-refused number task m q = built v (q ∙ ap (λ (x : Verdict). fitted x (length old)) (sym q))
+  built-refused number task m reached period q = built v (q ∙ ap (λ (x : Verdict). fitted x (length old)) (sym q))
 
   module _ (cycle jobs task : ℕ) (m : ℤ) (q : v ≡ Accepted cycle jobs task m) where
-    pub built-short : length old < cycle → Built l supply old new (Refused 8 0 (pos 0))
+    pub built-short : length old < cycle → Built l supply old new (Refused 8 0 (pos 0) 0 0)
     unfolding fitted
-    built-short h = built (Refused 8 0 (pos 0)) (sym (choose-yes _ _ _ (lt-ltb (length old) cycle h)) ∙ ap (λ (x : Verdict). fitted x (length old)) (sym q))
+    built-short h = built (Refused 8 0 (pos 0) 0 0) (sym (choose-yes _ _ _ (lt-ltb (length old) cycle h)) ∙ ap (λ (x : Verdict). fitted x (length old)) (sym q))
 
     pub built-whole : cycle ≤ length old → Built l supply old new (Accepted cycle jobs task m)
     unfolding fitted

@@ -270,7 +270,7 @@ module _ (n cycle : ℕ) (order periods dues runtimes : List ℕ) (S : Shown n c
         let fits = bounds .keeps .fits (late .task - 1) (lacks .0) in
         omega (arith, ap (λ (x : Late). x .short) (L .late-is), m .lacks, missing-is P (m .slice) (late .task - 1) (lacks .1) .1, fits .runtime-to, fits .period-to)
 
-    pub concluded-late : (jobs : ℕ) (z : ℤ) → (late .task ≡ 0 → ⊥) → z ≡ subℕ 0 (late .short) → Concluded l cycle jobs room table₁ (Refused 7 (late .task) z)
+    pub concluded-late : (jobs : ℕ) (z : ℤ) → (late .task ≡ 0 → ⊥) → z ≡ subℕ 0 (late .short) → Concluded l cycle jobs room table₁ (Refused 7 (late .task) z 0 0)
     unfolding judged
     concluded-late jobs z nz q = record {
       answer = rw (← L .late-is, q) (sym (choose-no _ _ _ (ne-eqb (late .task) 0 nz)));

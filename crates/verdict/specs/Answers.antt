@@ -12,8 +12,8 @@ use Rattle.tasks.specs.declared.TaskList.{TaskList}
 use Rattle.tasks.specs.declared.Bounds.{Bounds}
 use Rattle.tasks.specs.declared.Bounds.the-variants.{Kept, Broken}
 use Rattle.tasks.specs.List.{planOf}
-use Rattle.tasks.specs.Bounds.{boundsOf, cycleOf, jobsOf}
-use Rattle.tasks.specs.Kept.{KeepsBounds, bounds-kept, kept-tells, broken-tells, broken-number, plan-monotonic}
+use Rattle.tasks.specs.Bounds.{boundsOf, boundsAnswer, found, cycleOf, jobsOf}
+use Rattle.tasks.specs.Kept.{KeepsBounds, bounds-kept, bounds-broken, bounds-found, kept-tells, broken-tells, broken-number, plan-monotonic}
 use Rattle.verdict.specs.declared.Verdict.{Verdict}
 use Rattle.verdict.specs.declared.Verdict.the-variants.{Accepted, Refused}
 use Rattle.verdict.specs.Lateness.{lateness}
@@ -21,13 +21,15 @@ use Rattle.verdict.specs.Margin.{margin, tightest}
 use Rattle.verdict.specs.Verdict.{judged, verdictFrom, verdictOf, verdictAnswer}
 use Rattle.verdict.specs.Deadlines.{EarliestMissed, nothing-late, late-tells}
 
--- A bound is broken: refusal 1 to 6, with margin 0.
+-- A bound is broken: refusal 1 to 6, with margin 0, and 6 with the clash.
 pub record ByBounds (l : TaskList) (supply : ℕ) (v : Verdict) : Type 0 where
   pub number : ℕ
   pub task : ℕ
-  pub broken : boundsOf l supply ≡ Broken number task
+  pub reached : ℕ
+  pub period : ℕ
+  pub broken : boundsOf l supply ≡ Broken number task reached period
   pub to-6 : number ≤ 6
-  pub is : v ≡ Refused number task (pos 0)
+  pub is : v ≡ Refused number task (pos 0) reached period
 
 -- All bounds are kept, and a deadline of the cycle is missed, the earliest by the task named: refusal 7, with what its job lacked
 -- as the margin, below zero.
@@ -36,7 +38,7 @@ pub record ForLateness (l : TaskList) (supply : ℕ) (v : Verdict) : Type 0 wher
   pub place : ℕ
   pub short : ℕ
   pub earliest : EarliestMissed (planOf l) (cycleOf l) place (suc short)
-  pub is : v ≡ Refused 7 (suc place) (negsuc short)
+  pub is : v ≡ Refused 7 (suc place) (negsuc short) 0 0
 
 -- All bounds are kept, and every job of the cycle is on time: accepted, with the tightest task and its margin.
 pub record OnTimeAll (l : TaskList) (supply : ℕ) (v : Verdict) : Type 0 where
@@ -45,9 +47,17 @@ pub record OnTimeAll (l : TaskList) (supply : ℕ) (v : Verdict) : Type 0 where
   pub is : v ≡ Accepted (cycleOf l) (jobsOf l) (suc (tightest (planOf l) (l .count))) (pos (margin (planOf l) (tightest (planOf l) (l .count))))
 
 module _ (l : TaskList) (supply : ℕ) where
-  by-bounds : (number task : ℕ) → boundsOf l supply ≡ Broken number task → ByBounds l supply (verdictOf l supply)
+  by-bounds : (number task reached period : ℕ) → boundsOf l supply ≡ Broken number task reached period → ByBounds l supply (verdictOf l supply)
   unfolding verdictOf verdictFrom
-  by-bounds number task e = record { number = number; task = task; broken = e; to-6 = broken-number l supply number task e; is = ap (verdictFrom l) e }
+  by-bounds number task reached period e = record {
+    number = number;
+    task = task;
+    reached = reached;
+    period = period;
+    broken = e;
+    to-6 = broken-number l supply number task reached period e;
+    is = ap (verdictFrom l) e;
+  }
 
   module _ (K : KeepsBounds l supply) where
     plan-sound : Sound (planOf l)
@@ -66,8 +76,8 @@ module _ (l : TaskList) (supply : ℕ) where
       earliest = rw short at (late-tells (planOf l) plan-sound (cycleOf l) i task);
       is = kept-judged
           ∙ choose-no _ _ _ (ne-eqb (lateness (planOf l) (cycleOf l) .task) 0 (λ z. omega arith))
-          ∙ ap₂ (λ (t n : ℕ). Refused 7 t (subℕ 0 n)) task short
-          ∙ ap (Refused 7 (suc i)) (zero-less s);
+          ∙ ap₂ (λ (t n : ℕ). Refused 7 t (subℕ 0 n) 0 0) task short
+          ∙ ap (λ (m : ℤ). Refused 7 (suc i) m 0 0) (zero-less s);
     }
 
     late-refused : (lateness (planOf l) (cycleOf l) .task ≡ 0 → ⊥) → ForLateness l supply (verdictOf l supply)
@@ -89,7 +99,7 @@ module _ (l : TaskList) (supply : ℕ) where
   verdict-tells = go (boundsOf l supply) refl
     where
       go : (b : Bounds) → boundsOf l supply ≡ b → ByBounds l supply (verdictOf l supply) ⊎ (ForLateness l supply (verdictOf l supply) ⊎ OnTimeAll l supply (verdictOf l supply))
-      go (Broken number task) q = inl (by-bounds number task q)
+      go (Broken number task reached period) q = inl (by-bounds number task reached period q)
       go (Kept c j) q =
           let K = kept-tells l supply c j q .keeps in
           ⊎-elim
@@ -98,10 +108,15 @@ module _ (l : TaskList) (supply : ℕ) where
           (eq-or-ne (lateness (planOf l) (cycleOf l) .task) 0)
 
 -- ---- so an answer says which of the three it is
-other : {A : Type 0} {c j t n u : ℕ} {x y : ℤ} → Accepted c j t x ≡ Refused n u y → A
+other : {A : Type 0} {c j t n u r p : ℕ} {x y : ℤ} → Accepted c j t x ≡ Refused n u y r p → A
 other e = let z : _≡_ {A = ℕ} 0 1 = cc in absurd (omega arith)
 
 module _ (l : TaskList) (supply : ℕ) where
+  -- A broken bound is answered by what is found.
+  pub verdict-found : (found l supply .number ≡ 0 → ⊥) → verdictAnswer (verdictOf l supply) ≡ found l supply
+  unfolding verdictAnswer verdictOf verdictFrom boundsAnswer
+  verdict-found nz = let e = bounds-broken l supply nz in ap (λ (b : Bounds). verdictAnswer (verdictFrom l b)) e ∙ sym (ap boundsAnswer e) ∙ bounds-found l supply nz
+
   -- The margin is below zero exactly if the list is refused for lateness.
   pub below-zero : (verdictAnswer (verdictOf l supply) .number ≡ 7) ↔ ((n : ℕ) × (verdictAnswer (verdictOf l supply) .margin ≡ negsuc n))
   unfolding verdictAnswer
@@ -119,7 +134,7 @@ module _ (l : TaskList) (supply : ℕ) where
   accepted-as z =
       ⊎-elim
       (λ (h : ByBounds l supply (verdictOf l supply)).
-      let T = broken-tells l supply (h .number) (h .task) (h .broken) in
+      let T = broken-tells l supply (h .number) (h .task) (h .reached) (h .period) (h .broken) in
       absurd (T .some (sym (T .number-is) ∙ sym (ap (λ (v : Verdict). verdictAnswer v .number) (h .is)) ∙ z)))
       (⊎-elim
       (λ (h : ForLateness l supply (verdictOf l supply)). absurd (omega (arith, ap (λ (v : Verdict). verdictAnswer v .number) (h .is))))
@@ -130,6 +145,6 @@ module _ (l : TaskList) (supply : ℕ) where
   unfolding verdictAnswer
   accepted-tells cycle jobs task signed e = subst (OnTimeAll l supply) e (accepted-as (ap (λ (v : Verdict). verdictAnswer v .number) e))
 
-  pub refused-not-0 : (number task : ℕ) (margin : ℤ) → verdictOf l supply ≡ Refused number task margin → number ≡ 0 → ⊥
+  pub refused-not-0 : (number task : ℕ) (margin : ℤ) (reached period : ℕ) → verdictOf l supply ≡ Refused number task margin reached period → number ≡ 0 → ⊥
   unfolding verdictAnswer
-  refused-not-0 number task margin e z = other (sym (accepted-as (ap (λ (v : Verdict). verdictAnswer v .number) e ∙ z) .is) ∙ e)
+  refused-not-0 number task margin reached period e z = other (sym (accepted-as (ap (λ (v : Verdict). verdictAnswer v .number) e ∙ z) .is) ∙ e)

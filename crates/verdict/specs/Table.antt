@@ -16,13 +16,13 @@ use Rattle.verdict.specs.Verdict.{verdictOf}
 
 -- Table building adds refusal 8 last: the table lent is shorter than the cycle.
 unfoldable pub fitted : Verdict → ℕ → Verdict
-fitted (Accepted cycle jobs task margin) room = choose (ltb room cycle) (Refused 8 0 (pos 0)) (Accepted cycle jobs task margin)
-fitted (Refused number task margin) room = Refused number task margin
+fitted (Accepted cycle jobs task margin) room = choose (ltb room cycle) (Refused 8 0 (pos 0) 0 0) (Accepted cycle jobs task margin)
+fitted (Refused number task margin reached period) room = Refused number task margin reached period
 
 -- The entries of the slice rule from slice 0 to the cycle's end; the bytes beyond keep their values. Nothing is written on refusal.
 unfoldable pub tabled : TaskList → Verdict → List ℕ → List ℕ
 tabled l (Accepted cycle jobs task margin) old = overwrite (table (planOf l)) cycle old
-tabled l (Refused number task margin) old = old
+tabled l (Refused number task margin reached period) old = old
 
 pub record Built (l : TaskList) (supply : ℕ) (old new : List ℕ) (r : Verdict) : Type 0 where
   pub answer : r ≡ fitted (verdictOf l supply) (length old)

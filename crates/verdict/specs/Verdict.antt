@@ -21,11 +21,11 @@ unfoldable pub judged : Plan → ℕ → ℕ → Late → Verdict
 judged P cycle jobs late =
     choose (eqb (late .task) 0)
     (Accepted cycle jobs (suc (tightest P (P .count))) (pos (margin P (tightest P (P .count)))))
-    (Refused 7 (late .task) (subℕ 0 (late .short)))
+    (Refused 7 (late .task) (subℕ 0 (late .short)) 0 0)
 
--- Refusals 1 to 6 come first, with margin 0; then the slice rule over the cycle decides.
+-- Refusals 1 to 6 come first, with margin 0, and 6 with the clash; then the slice rule over the cycle decides.
 unfoldable pub verdictFrom : TaskList → Bounds → Verdict
-verdictFrom l (Broken number task) = Refused number task (pos 0)
+verdictFrom l (Broken number task reached period) = Refused number task (pos 0) reached period
 verdictFrom l (Kept cycle jobs) = judged (planOf l) cycle jobs (lateness (planOf l) cycle)
 
 unfoldable pub verdictOf : TaskList → ℕ → Verdict
@@ -33,5 +33,5 @@ verdictOf l supply = verdictFrom l (boundsOf l supply)
 
 -- The paper's values of each case.
 unfoldable pub verdictAnswer : Verdict → Answer
-verdictAnswer (Accepted cycle jobs task margin) = record { number = 0; task = task; margin = margin; cycle = cycle; jobs = jobs }
-verdictAnswer (Refused number task margin) = record { number = number; task = task; margin = margin; cycle = 0; jobs = 0 }
+verdictAnswer (Accepted cycle jobs task margin) = record { number = 0; task = task; margin = margin; cycle = cycle; jobs = jobs; reached = 0; period = 0 }
+verdictAnswer (Refused number task margin reached period) = record { number = number; task = task; margin = margin; cycle = 0; jobs = 0; reached = reached; period = period }

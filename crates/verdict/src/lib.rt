@@ -16,7 +16,8 @@ use tasks::Bounds;
 use tasks::TaskList;
 
 // The verdict: accepted with the cycle, the job count, the tightest task and its margin; or refused by number, with the task
-// that it names and, for lateness, the margin below zero.
+// that it names and, for lateness, the margin below zero. Refusal 6 says why: the multiple reached before the task, and the
+// task's period, which brings it above 4,096; of any other both are 0.
 pub enum Verdict {
     Accepted {
         cycle: u32,
@@ -28,6 +29,8 @@ pub enum Verdict {
         number: u32,
         task: usize,
         margin: i32,
+        reached: u32,
+        period: u32,
     },
 }
 
@@ -68,6 +71,8 @@ fn conclude(
             number: 7,
             task: late.task,
             margin: 0 - short,
+            reached: 0,
+            period: 0,
         };
     }
     let best = walk::tightest(dues, &ends, count);
@@ -210,10 +215,17 @@ fn settle(list: TaskList, supply: u32, table: &mut [u8]) -> Verdict
     ensures { λ r. ⌜ (r ≡ verdictOf list supply) × (now (table .exit) ≡ tabled list (fitted r (length (now (table .entry)))) (now (table .entry))) ⌝ }
 {
     match tasks::check_bounds(list, supply) {
-        Bounds::Broken { number, task } => Verdict::Refused {
+        Bounds::Broken {
+            number,
+            task,
+            reached,
+            period,
+        } => Verdict::Refused {
             number,
             task,
             margin: 0,
+            reached,
+            period,
         },
         Bounds::Kept { cycle, jobs } => decide(list, cycle, jobs, table),
     }
@@ -240,6 +252,8 @@ pub fn build(list: TaskList, supply: u32, table: &mut [u8]) -> Verdict
             number: 8,
             task: 0,
             margin: 0,
+            reached: 0,
+            period: 0,
         };
     }
     verdict

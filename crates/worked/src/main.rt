@@ -83,6 +83,8 @@ struct Numbers {
     task: u32,
     margin: i32,
     cycle: u32,
+    reached: u32,
+    period: u32,
 }
 
 fn wide(byte: u8) -> u32 {
@@ -113,16 +115,22 @@ fn take_apart(verdict: Verdict) -> Numbers {
             task: narrow(task),
             margin,
             cycle,
+            reached: 0,
+            period: 0,
         },
         Verdict::Refused {
             number,
             task,
             margin,
+            reached,
+            period,
         } => Numbers {
             refusal: number,
             task: narrow(task),
             margin,
             cycle: 0,
+            reached,
+            period,
         },
     }
 }
@@ -184,10 +192,13 @@ fn lists_of_two(tally: Tally) -> Tally {
     let wider = of_two(task(64, 1), task(65, 1));
     let t = compare(t, b"(64,1)(65,1) refusal", wider.refusal, 6);
     let t = compare(t, b"(64,1)(65,1) task", wider.task, 2);
+    let t = compare(t, b"(64,1)(65,1) multiple before it", wider.reached, 64);
+    let t = compare(t, b"(64,1)(65,1) its period", wider.period, 65);
     let t = compare(t, b"(64,1)(65,1) multiple", short(tasks::lcm(64, 65)), 4160);
     let over = of_two(task(3, 4), task(0, 1));
     let t = compare(t, b"(3,4)(0,1) refusal", over.refusal, 4);
-    compare(t, b"(3,4)(0,1) task", over.task, 1)
+    let t = compare(t, b"(3,4)(0,1) task", over.task, 1);
+    compare(t, b"(3,4)(0,1) multiple before it", over.reached, 0)
 }
 
 // The run on A: task 1 with needs 1 1 1, task 2 with needs 1 5, task 3 with need 3.

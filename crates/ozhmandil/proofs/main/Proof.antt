@@ -2,56 +2,39 @@
 use mathlib.Core.Path.{sym}
 use native.Mathlib.Omega.{arith}
 use lib.Seq.{length-take-le}
-use Rattle.ozhmandil.proofs.Ways.{answer-within}
 use borrow.Author.Needs.{needs}
+use Rattle.ozhmandil.proofs.Ways.{within-lent}
 use Rattle.ozhmandil.proofs.main.Statement.{statement}
 use Rattle.ozhmandil.proofs.main.Tie as tie
 
-slice-aggregate-read-full : tie.Need-slice-aggregate-read-full
-slice-aggregate-read-full c = search needs
-
-read-full-requires : tie.Need-read-full-requires
-read-full-requires c κs = search needs
-
-array-share-prefix-input : tie.Need-array-share-prefix-input
-array-share-prefix-input c = search needs
-
-slice-aggregate-answer : tie.Need-slice-aggregate-answer
-slice-aggregate-answer c = search needs
-
-slice-aggregate-answer-2 : tie.Need-slice-aggregate-answer-2
-slice-aggregate-answer-2 c = search needs
-
-slice-aggregate-answer-3 : tie.Need-slice-aggregate-answer-3
-slice-aggregate-answer-3 c = search needs
-
-answer-requires : tie.Need-answer-requires
-answer-requires c κs = search needs
-
 array-share-prefix-out : tie.Need-array-share-prefix-out
-array-share-prefix-out c = answer-within (c .before .before .answer .ensures .0) (omega (arith, c .before .before .answer .ensures .1))
+array-share-prefix-out c = let said = c .before .before .before .answer .ensures in within-lent (said .0 .written) (omega (arith, said .1 .1))
 
 slice-aggregate-write-all : tie.Need-slice-aggregate-write-all
-slice-aggregate-write-all c = sym (length-take-le _ _ (answer-within (c .before .before .before .answer .ensures .0) (omega (arith, c .before .before .before .answer .ensures .1))))
+slice-aggregate-write-all c = let said = c .before .before .before .before .answer .ensures in sym (length-take-le _ _ (within-lent (said .0 .written) (omega (arith, said .1 .1))))
 
-write-all-requires : tie.Need-write-all-requires
-write-all-requires c κs = search needs
+array-share-prefix-words : tie.Need-array-share-prefix-words
+array-share-prefix-words c = let said = c .before .before .before .before .before .answer .ensures in within-lent (said .1 .0 .written) (omega (arith, said .1 .1))
 
-returns : tie.Need-returns
-returns c = search needs
+slice-aggregate-write-all-2 : tie.Need-slice-aggregate-write-all-2
+slice-aggregate-write-all-2 c = let said = c .before .before .before .before .before .before .answer .ensures in sym (length-take-le _ _ (within-lent (said .1 .0 .written) (omega (arith, said .1 .1))))
 
 pub main-spec : {M : Type 1} → statement M
 main-spec =
     tie.close
     (tie.spec
-    slice-aggregate-read-full
-    read-full-requires
-    array-share-prefix-input
-    slice-aggregate-answer
-    slice-aggregate-answer-2
-    slice-aggregate-answer-3
-    answer-requires
+    (λ c. search needs)
+    (λ c κs. search needs)
+    (λ c. search needs)
+    (λ c. search needs)
+    (λ c. search needs)
+    (λ c. search needs)
+    (λ c. search needs)
+    (λ c κs. search needs)
     array-share-prefix-out
     slice-aggregate-write-all
-    write-all-requires
-    returns)
+    (λ c κs. search needs)
+    array-share-prefix-words
+    slice-aggregate-write-all-2
+    (λ c κs. search needs)
+    (λ c. search needs))

@@ -20,7 +20,7 @@ same-length : tie.Need-same-length
 same-length c = search needs
 
 returns : tie.Need-returns
-returns c = (writes-refused _ _ _ _ (search needs) _ (c .before .before .before .before .before .verdict .given .1) (c .before .before .write-refusal .ensures .0), c .before .before .write-refusal .ensures .1)
+returns c = (writes-refused _ _ _ _ (search needs) _ _ _ (c .before .before .before .before .before .verdict .given .1) (c .before .before .write-refusal .ensures .0), c .before .before .write-refusal .ensures .1)
 
 same-length-2 : tie.Need-same-length-2
 same-length-2 c = search needs

@@ -21,11 +21,14 @@ loop-holds : tie.Need-loop-holds Inv-loop μ-loop
 unfolding recordsTo
 loop-holds c = (omega arith, put-nothing _ _)
 
-shared-slice-read-put-slice : tie.Need-shared-slice-read-put-slice Inv-loop μ-loop
-shared-slice-read-put-slice c = omega arith
+shared-slice-read-put-pair : tie.Need-shared-slice-read-put-pair Inv-loop μ-loop
+shared-slice-read-put-pair c = omega arith
 
-put-slice-requires : tie.Need-put-slice-requires Inv-loop μ-loop
-put-slice-requires c κs = slice-room _ _ _ (c .before .before .before .before .before .before .pre .0) (c .before .before .before .loop .inv .1) (c .before .before .loop-test .taken)
+cast-put-pair : tie.Need-cast-put-pair Inv-loop μ-loop
+cast-put-pair c = record { fits = omega (arith, c .shared-slice-known2 .given (c .before .before .loop .t)) }
+
+put-pair-requires : tie.Need-put-pair-requires Inv-loop μ-loop
+put-pair-requires c κs = slice-room _ _ _ (c .before .before .before .before .before .before .pre .0) (c .before .before .before .loop .inv .1) (c .before .before .loop-test .taken)
 
 add-t : tie.Need-add-t Inv-loop μ-loop
 add-t c = omega arith
@@ -35,7 +38,7 @@ loop-less c = omega arith
 
 loop-again : tie.Need-loop-again Inv-loop μ-loop
 unfolding recordsTo
-loop-again c = (omega arith, rw add-one (chain (c .before .before .before .before .before .before .loop .inv .1) (c .before .before .put-slice .ensures)))
+loop-again c = (omega arith, rw add-one (chain (c .before .before .before .before .before .before .loop .inv .1) (c .before .before .put-pair .ensures)))
 
 same-length : tie.Need-same-length Inv-loop μ-loop
 same-length c = put-length (c .before .loop .inv .1)
@@ -52,8 +55,9 @@ put-slices-spec =
     Inv-loop
     μ-loop
     loop-holds
-    shared-slice-read-put-slice
-    put-slice-requires
+    shared-slice-read-put-pair
+    cast-put-pair
+    put-pair-requires
     add-t
     loop-less
     loop-again

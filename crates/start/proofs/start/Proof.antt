@@ -7,7 +7,7 @@ use Rattle.start.proofs.start.Tie as tie
 
 returns : tie.Need-returns
 returns c =
-    refused-begins _ _ _ _ _ _ (c .before .before .before .before .judge .ensures) _ _ _ _ _ (c .before .before .verdict .given .1) (search needs) (c .no-run .ensures)
+    refused-begins _ _ _ _ _ _ (c .before .before .before .before .judge .ensures) _ _ _ _ _ _ _ (c .before .before .verdict .given .1) (search needs) (c .no-run .ensures)
 
 returns-2 : tie.Need-returns-2
 returns-2 c =

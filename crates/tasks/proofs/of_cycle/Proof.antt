@@ -7,10 +7,10 @@ use native.Mathlib.Numerals.{add-one}
 use native.Mathlib.Nat.{div-le-self}
 use borrow.Author.Needs.{needs}
 use Rattle.basis.specs.Sum.{sum}
-use Rattle.basis.specs.Answer.{refusal, none, firstFound}
+use Rattle.basis.specs.Answer.{refusal, clash, none, firstFound}
 use Rattle.tasks.specs.List.{taskAt, noTask}
 use Rattle.tasks.specs.Bounds.{ofCycle, multiple as multipleOf, jobSum}
-use Rattle.tasks.proofs.Steps.{finds, nothing-here, found-here, exceeds, keeps-to, one-more-multiple, one-more-jobs}
+use Rattle.tasks.proofs.Steps.{nothing-here, keeps-to, one-more-multiple, one-more-jobs, given-up, all-reached}
 use Rattle.tasks.proofs.of_cycle.Statement.{statement}
 use Rattle.tasks.proofs.of_cycle.Tie as tie
 
@@ -31,18 +31,14 @@ unfolding multipleOf firstFound none refusal
 loop-holds c = (omega arith, omega arith, refl, refl)
 
 returns : tie.Need-returns Inv-loop μ-loop Inv-loop2 μ-loop2
-unfolding taskAt noTask ofCycle
-returns c = record {
-  over = finds _ _ (found-here _ _ _ _ (c .before .before .before .if1 .taken) (c .before .before .before .before .before .loop .inv .3) (exceeds 4096 _ 5 _ _ (one-more-multiple _ _ _ _ (c .before .before .before .before .before .loop .inv .2) (c .before .lcm .ensures)) (c .if2 .taken)) (λ z. omega arith));
-  multiple-is = λ z. absurd (omega arith);
-  jobs-is = λ z. absurd (omega arith);
-}
+unfolding taskAt noTask
+returns c = given-up _ _ _ _ _ (c .before .before .before .if1 .taken) (c .before .before .before .before .before .loop .inv .3) (c .before .before .before .before .before .loop .inv .2) (one-more-multiple _ _ _ _ (c .before .before .before .before .before .loop .inv .2) (c .before .lcm .ensures)) (c .if2 .taken)
 
 loop-again : tie.Need-loop-again Inv-loop μ-loop Inv-loop2 μ-loop2
-unfolding taskAt noTask ofCycle
+unfolding taskAt noTask ofCycle clash
 loop-again c =
     let next = one-more-multiple _ _ _ _ (c .before .before .before .before .before .loop .inv .2) (c .before .lcm .ensures) in
-    (omega arith, c .if2 .left, rw (add-one _) next, nothing-here _ _ (c .before .before .before .before .before .loop .inv .3) (keeps-to 4096 _ 5 _ _ next (c .if2 .left)))
+    (omega arith, c .if2 .left, rw (add-one _) next, nothing-here _ _ (c .before .before .before .before .before .loop .inv .3) (keeps-to 4096 _ _ next _ (λ z. omega arith) (c .if2 .left)))
 
 loop2-holds : tie.Need-loop2-holds Inv-loop μ-loop Inv-loop2 μ-loop2
 unfolding jobSum sum
@@ -64,11 +60,7 @@ returns-2 : tie.Need-returns-2 Inv-loop μ-loop Inv-loop2 μ-loop2
 returns-2 c =
     let end : c .before .before .before .before .before .loop .i ≡ c .before .before .before .before .before .before .before .args .list .count = omega arith in
     let end2 : c .before .before .loop2 .j ≡ c .before .before .before .before .before .before .before .args .list .count = omega arith in
-    record {
-      over = record { nothing = λ _. rw end at (c .before .before .before .before .before .loop .inv .3); this = λ some. absurd (some refl) };
-      multiple-is = λ _. rw end at (c .before .before .before .before .before .loop .inv .2);
-      jobs-is = λ _. rw end2 at (c .before .before .loop2 .inv .1);
-    }
+    all-reached _ _ _ _ (rw end at (c .before .before .before .before .before .loop .inv .3)) (rw end at (c .before .before .before .before .before .loop .inv .2)) (rw end2 at (c .before .before .loop2 .inv .1))
 
 pub of-cycle-spec : {M : Type 1} → statement M
 of-cycle-spec =

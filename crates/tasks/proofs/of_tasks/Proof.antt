@@ -1,6 +1,6 @@
 -- `tasks::of_tasks` meets its contract: up to task i nothing was found by 3 and 4; then, up to task j, nothing by 5.
 use Prim.Native.Nat.{ℕ, _≤_, _-_}
-use mathlib.Core.Path.{_≡_, refl, ap, _∙_}
+use mathlib.Core.Path.{_≡_, refl, sym, ap, _∙_}
 use native.Mathlib.Omega.{arith}
 use native.Mathlib.Numerals.{add-one}
 use borrow.Author.Needs.{needs}
@@ -30,8 +30,8 @@ unfolding firstFound
 loop-holds c = (omega arith, none-number)
 
 returns : tie.Need-returns Inv-loop μ-loop Inv-loop2 μ-loop2
-unfolding taskAt noTask
-returns c = finds _ _ (still-first _ _ _ (found-here _ _ _ _ (c .before .before .before .before .if1 .taken) (c .before .before .before .before .before .before .loop .inv .1) (of-task-at _ _ _ (c .before .before .of-task .ensures)) (c .if2 .taken)) (c .if2 .taken))
+unfolding taskAt noTask refusal
+returns c = finds _ _ (still-first _ _ _ (found-here _ _ _ _ (c .before .before .before .before .if1 .taken) (c .before .before .before .before .before .before .loop .inv .1) (sym (of-task-at _ _ _ (c .before .before .of-task .ensures))) (c .if2 .taken)) (c .if2 .taken))
 
 loop-again : tie.Need-loop-again Inv-loop μ-loop Inv-loop2 μ-loop2
 unfolding taskAt noTask refusal
@@ -47,16 +47,16 @@ module _ (list : TaskList) (supply i : ℕ) (end : i ≡ list .count) (fit : fir
   memory-says = else-found _ _ (rw end at fit)
 
 returns-2 : tie.Need-returns-2 Inv-loop μ-loop Inv-loop2 μ-loop2
-unfolding taskAt noTask ofMemory
+unfolding taskAt noTask ofMemory refusal
 returns-2 c =
     let summed = one-more-memory _ _ _ _ (c .before .before .before .before .before .before .loop2 .inv .2) (c .before .before .wide .ensures .0) in
-    finds _ _ (memory-says _ _ _ (omega arith) (c .before .before .before .before .before .before .before .before .before .loop .inv .1) ∙ found-here _ _ _ _ (c .before .before .before .before .if3 .taken) (c .before .before .before .before .before .before .loop2 .inv .3) (exceeds _ _ 4 _ _ summed (omega arith)) (λ z. omega arith))
+    finds _ _ (memory-says _ _ _ (omega arith) (c .before .before .before .before .before .before .before .before .before .loop .inv .1) ∙ found-here _ _ _ _ (c .before .before .before .before .if3 .taken) (c .before .before .before .before .before .before .loop2 .inv .3) (exceeds _ _ _ summed _ (λ z. omega arith) (omega arith) ∙ ap (refusal 5) (sym (add-one _))) (λ z. omega arith))
 
 loop2-again : tie.Need-loop2-again Inv-loop μ-loop Inv-loop2 μ-loop2
-unfolding taskAt noTask ofMemory
+unfolding taskAt noTask ofMemory refusal
 loop2-again c =
     let summed = one-more-memory _ _ _ _ (c .before .before .before .before .before .before .loop2 .inv .2) (c .before .before .wide .ensures .0) in
-    (omega arith, omega arith, rw (add-one _) summed, nothing-here _ _ (c .before .before .before .before .before .before .loop2 .inv .3) (keeps-to _ _ 4 _ _ summed (omega arith)))
+    (omega arith, omega arith, rw (add-one _) summed, nothing-here _ _ (c .before .before .before .before .before .before .loop2 .inv .3) (keeps-to _ _ _ summed _ (λ z. omega arith) (omega arith)))
 
 returns-3 : tie.Need-returns-3 Inv-loop μ-loop Inv-loop2 μ-loop2
 unfolding refusal

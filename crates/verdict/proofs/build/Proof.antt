@@ -6,7 +6,7 @@ use Rattle.verdict.proofs.build.Statement.{statement}
 use Rattle.verdict.proofs.build.Tie as tie
 
 returns : tie.Need-returns
-returns c = built-refused _ _ _ _ _ (c .before .before .before .before .settle .ensures) _ _ _ (c .enum-told .given .1)
+returns c = built-refused _ _ _ _ _ (c .before .before .before .before .settle .ensures) _ _ _ _ _ (c .enum-told .given .1)
 
 returns-2 : tie.Need-returns-2
 returns-2 c = built-short _ _ _ _ _ (c .before .before .before .before .before .before .settle .ensures) _ _ _ _ (c .before .before .verdict .given .1) (omega arith)

@@ -16,7 +16,7 @@ returns-2 : tie.Need-returns-2
 returns-2 c = c .before .before .before .with-table .ensures (shown _ _ (c .before .before .before .before .before .before .before .before .before .before .before .before .before .before .before .before .before .before .pre .0) (c .before .before .before .before .before .before .before .before .before .before .before .before .before .before .before .before .before .before .pre .1) _ _ _ _ (c .before .before .before .before .before .before .before .before .before .before .before .before .by-rank .ensures))
 
 returns-3 : tie.Need-returns-3
-returns-3 c = settled-refused _ _ _ _ (c .before .before .before .conclude2 .ensures (shown _ _ (c .before .before .before .before .before .before .before .before .before .before .before .before .before .before .before .before .before .before .before .before .before .pre .0) (c .before .before .before .before .before .before .before .before .before .before .before .before .before .before .before .before .before .before .before .before .before .pre .1) _ _ _ _ (c .before .before .before .before .before .before .before .before .before .before .before .before .before .before .before .by-rank .ensures)) .answer) _ _ _ _ (c .enum-told .given .1)
+returns-3 c = settled-refused _ _ _ _ (c .before .before .before .conclude2 .ensures (shown _ _ (c .before .before .before .before .before .before .before .before .before .before .before .before .before .before .before .before .before .before .before .before .before .pre .0) (c .before .before .before .before .before .before .before .before .before .before .before .before .before .before .before .before .before .before .before .before .before .pre .1) _ _ _ _ (c .before .before .before .before .before .before .before .before .before .before .before .before .before .before .before .by-rank .ensures)) .answer) _ _ _ _ _ _ (c .enum-told .given .1)
 
 with-table-requires-2 : tie.Need-with-table-requires-2
 with-table-requires-2 c κs = (shown _ _ (c .before .before .before .before .before .before .before .before .before .before .before .before .before .before .before .before .before .before .pre .0) (c .before .before .before .before .before .before .before .before .before .before .before .before .before .before .before .before .before .before .pre .1) _ _ _ _ (c .before .before .before .before .before .before .before .before .before .before .before .before .by-rank .ensures), zeros 4096, omega (arith, c .before .before .before .before .before .before .before .before .before .before .before .before .before .before .before .before .before .before .pre .0 .keeps .cycle-within, c .before .before .before .before .before .before .before .before .before .before .before .before .before .before .before .before .before .before .pre .1), c .before .before .before .before .before .before .before .before .before .before .before .if1 .left)

@@ -9,7 +9,7 @@ decide-requires : tie.Need-decide-requires
 decide-requires c κs = kept-bounded _ _ (c .before .before .before .before .before .before .args .table .now) _ _ (sym (c .before .before .before .before .check-bounds .ensures) ∙ c .before .before .cycle .given .1)
 
 returns : tie.Need-returns
-returns c = settle-broken _ _ _ _ _ (sym (c .before .before .before .check-bounds .ensures) ∙ c .before .number .given .1)
+returns c = settle-broken _ _ _ _ _ _ _ (sym (c .before .before .before .check-bounds .ensures) ∙ c .before .number .given .1)
 
 returns-2 : tie.Need-returns-2
 returns-2 c = settle-kept _ _ _ _ _ (sym (c .before .before .before .before .before .before .before .check-bounds .ensures) ∙ c .before .before .before .before .before .cycle .given .1) _ _ (c .before .before .decide .ensures)

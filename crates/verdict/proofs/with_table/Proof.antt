@@ -6,7 +6,7 @@ use Rattle.verdict.proofs.with_table.Statement.{statement}
 use Rattle.verdict.proofs.with_table.Tie as tie
 
 returns : tie.Need-returns
-returns c = λ S. settled-refused (S .list) _ _ _ (c .before .before .before .before .conclude .ensures S .answer) _ _ _ _ (c .enum-told2 .given .1)
+returns c = λ S. settled-refused (S .list) _ _ _ (c .before .before .before .before .conclude .ensures S .answer) _ _ _ _ _ _ (c .enum-told2 .given .1)
 
 copy-requires : tie.Need-copy-requires
 copy-requires c κs = (omega (arith, c .before .before .before .before .before .before .before .before .before .before .pre .2), omega (arith, c .before .before .before .before .before .before .before .before .before .before .pre .3))
