@@ -7,12 +7,12 @@ use native.Mathlib.Nat.{le-of-dvd}
 use lib.ListN.{length}
 use borrow.Author.Tests.{lt-ltb}
 use Rattle.basis.specs.Choose.{choose-yes, choose-either, eq-or-ne, le-or-lt}
-use Rattle.basis.specs.Answer.{Answer, refusal, clash, none, _orElse_, firstFound, else-found, else-kept, first-all, first-is, found-none}
+use Rattle.basis.specs.Answer.{Answer, refusal, clash, none, _orElse_, firstFound, else-found, else-kept, first-is, found-none}
 use Rattle.tasks.specs.declared.TaskList.{TaskList}
 use Rattle.tasks.specs.List.{taskAt}
 use Rattle.tasks.specs.Euclid.{lcm-is-least}
-use Rattle.tasks.specs.Bounds.{multiple, ofCount, ofNumbers, ofTask, ofMemory, ofCycle, found, boundsOf, boundsAnswer}
-use Rattle.tasks.specs.Kept.{PeriodsPos, one-test-none, multiple-pos, period-divides, multiple-least, tasks-none, found-most, bounds-kept, bounds-found, broken-tells, nothing-found}
+use Rattle.tasks.specs.Bounds.{multiple, ofTask, ofCycle, found, boundsOf, boundsAnswer}
+use Rattle.tasks.specs.Kept.{PeriodsPos, UpTo, one-test-none, multiple-pos, period-divides, multiple-least, tasks-none, count-most, tasks-most, memory-most, found-most, bounds-kept, bounds-found, broken-tells, nothing-found}
 use Rattle.verdict.specs.declared.Verdict.{Verdict}
 use Rattle.verdict.specs.declared.Verdict.the-variants as verdict
 use Rattle.verdict.specs.Verdict.{verdictOf, verdictAnswer}
@@ -28,44 +28,21 @@ silent l a not-6 r p = record { six-says = λ e. absurd (not-6 e); others-silent
 
 -- ---- what is found by 6
 -- Of what comes first the number is not 6; so it is 6 only where that is nothing.
-second-of : (a b : Answer) → a .number ≤ 5 → (a orElse b) .number ≡ 6 → (a .number ≡ 0) × (b .number ≡ 6)
-second-of a b low e =
+second-of : (most : ℕ) (a b : Answer) → UpTo most a → most ≤ 5 → (a orElse b) .number ≡ 6 → (a .number ≡ 0) × (b .number ≡ 6)
+second-of most a b low l e =
     ⊎-elim
     (λ (z : a .number ≡ 0). (z, sym (ap (λ (x : Answer). x .number) (else-found a b z)) ∙ e))
-    (λ (some : a .number ≡ 0 → ⊥). absurd (omega (arith, ap (λ (x : Answer). x .number) (else-kept a b some))))
+    (λ (some : a .number ≡ 0 → ⊥). absurd (omega (arith, low .to-most, ap (λ (x : Answer). x .number) (else-kept a b some))))
     (eq-or-ne (a .number) 0)
 
-abbrev UpTo5 : Answer → Type 0
-UpTo5 a = a .number ≤ 5
-
-plain-to-5 : (n t : ℕ) → n ≤ 5 → UpTo5 (refusal n t)
-unfolding refusal
-plain-to-5 n t l = l
-
-none-to-5 : UpTo5 none
-unfolding none
-none-to-5 = plain-to-5 0 0 (omega arith)
-
 module _ (l : TaskList) (supply : ℕ) (six : found l supply .number ≡ 6) where
-  counts : UpTo5 (ofCount (l .count))
-  unfolding ofCount
-  counts = choose-either UpTo5 _ _ _ (plain-to-5 1 0 (omega arith)) (choose-either UpTo5 _ _ _ (plain-to-5 2 0 (omega arith)) none-to-5)
-
-  fits : UpTo5 (firstFound (ofTask (l .tasks)) (l .count))
-  unfolding ofTask ofNumbers
-  fits = first-all UpTo5 none-to-5 _ (λ i. choose-either UpTo5 _ _ _ (plain-to-5 3 (suc i) (omega arith)) (choose-either UpTo5 _ _ _ (plain-to-5 4 (suc i) (omega arith)) none-to-5)) (l .count)
-
-  memory : UpTo5 (firstFound (ofMemory (l .tasks) supply) (l .count))
-  unfolding ofMemory
-  memory = first-all UpTo5 none-to-5 _ (λ i. choose-either UpTo5 _ _ _ (plain-to-5 5 (suc i) (omega arith)) none-to-5) (l .count)
-
   -- Nothing is found by 1 to 5, so that every task fits, and what is found is what the running multiple says.
   only-cycle : (firstFound (ofTask (l .tasks)) (l .count) .number ≡ 0) × (firstFound (ofCycle (l .tasks)) (l .count) .number ≡ 6) × (found l supply ≡ firstFound (ofCycle (l .tasks)) (l .count))
   unfolding found
   only-cycle =
-      let a = second-of _ _ counts six in
-      let b = second-of _ _ fits (a .1) in
-      let c = second-of _ _ memory (b .1) in
+      let a = second-of 2 _ _ (count-most (l .count)) (omega arith) six in
+      let b = second-of 4 _ _ (tasks-most (l .tasks) (l .count)) (omega arith) (a .1) in
+      let c = second-of 5 _ _ (memory-most (l .tasks) (l .count) supply) (omega arith) (b .1) in
       (b .0, c .1, else-found _ _ (a .0) ∙ else-found _ _ (b .0) ∙ else-found _ _ (c .0))
 
   periods-pos : PeriodsPos (l .tasks) (l .count)

@@ -14,9 +14,9 @@ use Rattle.tasks.specs.declared.Multiple.{Multiple}
 use Rattle.tasks.specs.declared.Multiple.the-variants.{Reached, GivenUp}
 use Rattle.tasks.specs.declared.Task.{Task}
 use Rattle.tasks.specs.declared.Bounds.the-variants.{Kept, Broken}
-use Rattle.tasks.specs.Bounds.{cycleOf, jobsOf, ofCount, ofTask, ofMemory, ofCycle, reachedOr, multiplied, found, answer, boundsOf}
+use Rattle.tasks.specs.Bounds.{cycleOf, jobsOf, ofCount, ofTask, ofMemory, ofCycle, found, answer, boundsOf}
 use Rattle.tasks.specs.Kept.{AllFit, of-count-none, tasks-none, nothing-found, bounds-kept}
-use Rattle.tasks.specs.Shapes.{asAnswer, Finds}
+use Rattle.tasks.specs.Shapes.{asAnswer, Finds, reachedOr, multiplied}
 use Rattle.tasks.proofs.Steps.{still-first}
 
 -- The first that is found is the same, whichever checks are made together.

@@ -14,9 +14,9 @@ use Rattle.tasks.specs.declared.Finding.{Finding}
 use Rattle.tasks.specs.List.{taskAt}
 use Rattle.tasks.specs.Euclid.{lcmOf}
 use Rattle.tasks.specs.declared.Multiple.the-variants.{Reached, GivenUp}
-use Rattle.tasks.specs.Bounds.{reachedOr, multiplied, ofCycle, ofNumbers, ofTask, multiple, memorySum, jobSum}
+use Rattle.tasks.specs.Bounds.{ofCycle, ofNumbers, ofTask, multiple, memorySum, jobSum}
 use Rattle.tasks.specs.Kept.{one-test-none}
-use Rattle.tasks.specs.Shapes.{asAnswer, Finds}
+use Rattle.tasks.specs.Shapes.{asAnswer, Finds, reachedOr, multiplied}
 
 -- ---- a search that stops at the first it finds
 pub finds : (a : Answer) (r : Finding) → a ≡ asAnswer r → Finds a r

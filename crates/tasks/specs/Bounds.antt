@@ -12,8 +12,6 @@ use Rattle.tasks.specs.declared.Task.{Task}
 use Rattle.tasks.specs.declared.TaskList.{TaskList}
 use Rattle.tasks.specs.declared.Bounds.{Bounds}
 use Rattle.tasks.specs.declared.Bounds.the-variants.{Kept, Broken}
-use Rattle.tasks.specs.declared.Multiple.{Multiple}
-use Rattle.tasks.specs.declared.Multiple.the-variants.{Reached, GivenUp}
 use Rattle.tasks.specs.List.{taskAt}
 use Rattle.tasks.specs.Euclid.{lcmOf}
 
@@ -57,13 +55,6 @@ ofMemory ts supply i = choose (ltb supply (memorySum ts (suc i))) (refusal 5 (su
 -- 6: cycle above 4,096; names the first task where the running multiple is, with the multiple before it and its period.
 unfoldable pub ofCycle : List Task → ℕ → Answer
 ofCycle ts i = choose (ltb 4096 (multiple ts (suc i))) (clash (suc i) (multiple ts i) (taskAt ts i .period)) none
-
--- The least common multiple of the first n periods with its job count; or where it was given up, and why.
-unfoldable pub reachedOr : Answer → ℕ → ℕ → Multiple
-reachedOr f multiple jobs = choose (eqb (f .number) 0) (Reached multiple jobs) (GivenUp (f .task) (f .reached) (f .period))
-
-unfoldable pub multiplied : List Task → ℕ → Multiple
-multiplied ts n = reachedOr (firstFound (ofCycle ts) n) (multiple ts n) (jobSum ts (multiple ts n) n)
 
 -- Lists go 1, 2, then 3 and 4 task by task, then 5, then 6.
 unfoldable pub found : TaskList → ℕ → Answer

@@ -221,36 +221,54 @@ kept-tells l supply cycle jobs e =
     absurd (omega arith))
     (eq-or-ne (found l supply .number) 0)
 
--- ---- the numbers of refusal here are 1 to 6, with margin 0, and only 6 says why
-pub record UpTo6 (f : Answer) : Type 0 where
-  pub to-6 : f .number ≤ 6
+-- ---- by which numbers each bound is refused: up to this one, with margin 0, and only 6 says why
+pub record UpTo (most : ℕ) (f : Answer) : Type 0 where
+  pub to-most : f .number ≤ most
   pub margin-0 : f .margin ≡ pos 0
   pub cycle-0 : f .cycle ≡ 0
   pub jobs-0 : f .jobs ≡ 0
   pub no-clash : (f .number ≡ 6 → ⊥) → (f .reached ≡ 0) × (f .period ≡ 0)
 
-plain-to-6 : (n t : ℕ) → n ≤ 6 → UpTo6 (refusal n t)
+plain-to : (most n t : ℕ) → n ≤ most → UpTo most (refusal n t)
 unfolding refusal
-plain-to-6 n t l = record { to-6 = l; margin-0 = refl; cycle-0 = refl; jobs-0 = refl; no-clash = λ _. (refl, refl) }
+plain-to most n t l = record { to-most = l; margin-0 = refl; cycle-0 = refl; jobs-0 = refl; no-clash = λ _. (refl, refl) }
 
-clash-to-6 : (t r p : ℕ) → UpTo6 (clash t r p)
-unfolding clash
-clash-to-6 t r p = record { to-6 = omega arith; margin-0 = refl; cycle-0 = refl; jobs-0 = refl; no-clash = λ not-so. absurd (not-so refl) }
-
-first-to-6 : (find : ℕ → Answer) → ((i : ℕ) → UpTo6 (find i)) → (n : ℕ) → UpTo6 (firstFound find n)
+none-to : (most : ℕ) → UpTo most none
 unfolding none
-first-to-6 = first-all UpTo6 (plain-to-6 0 0 (omega arith))
+none-to most = plain-to most 0 0 (omega arith)
 
-pub found-most : (l : TaskList) (supply : ℕ) → UpTo6 (found l supply)
-unfolding found _orElse_ ofCount ofTask ofNumbers ofMemory ofCycle none
+clash-to : (t r p : ℕ) → UpTo 6 (clash t r p)
+unfolding clash
+clash-to t r p = record { to-most = omega arith; margin-0 = refl; cycle-0 = refl; jobs-0 = refl; no-clash = λ not-so. absurd (not-so refl) }
+
+up-to-6 : (most : ℕ) (f : Answer) → UpTo most f → most ≤ 6 → UpTo 6 f
+up-to-6 most f h l = record { to-most = omega (arith, h .to-most); margin-0 = h .margin-0; cycle-0 = h .cycle-0; jobs-0 = h .jobs-0; no-clash = h .no-clash }
+
+pub count-most : (n : ℕ) → UpTo 2 (ofCount n)
+unfolding ofCount
+count-most n = choose-either (UpTo 2) _ _ _ (plain-to 2 1 0 (omega arith)) (choose-either (UpTo 2) _ _ _ (plain-to 2 2 0 (omega arith)) (none-to 2))
+
+module _ (ts : List Task) (n : ℕ) where
+  pub tasks-most : UpTo 4 (firstFound (ofTask ts) n)
+  unfolding ofTask ofNumbers
+  tasks-most = first-all (UpTo 4) (none-to 4) _ (λ i. choose-either (UpTo 4) _ _ _ (plain-to 4 3 (suc i) (omega arith)) (choose-either (UpTo 4) _ _ _ (plain-to 4 4 (suc i) (omega arith)) (none-to 4))) n
+
+  pub memory-most : (supply : ℕ) → UpTo 5 (firstFound (ofMemory ts supply) n)
+  unfolding ofMemory
+  memory-most supply = first-all (UpTo 5) (none-to 5) _ (λ i. choose-either (UpTo 5) _ _ _ (plain-to 5 5 (suc i) (omega arith)) (none-to 5)) n
+
+  cycle-most : UpTo 6 (firstFound (ofCycle ts) n)
+  unfolding ofCycle
+  cycle-most = first-all (UpTo 6) (none-to 6) _ (λ i. choose-either (UpTo 6) _ _ _ (clash-to _ _ _) (none-to 6)) n
+
+pub found-most : (l : TaskList) (supply : ℕ) → UpTo 6 (found l supply)
+unfolding found _orElse_
 found-most l supply =
-    choose-either UpTo6 _ _ _
-    (choose-either UpTo6 _ _ _
-    (choose-either UpTo6 _ _ _
-    (first-to-6 _ (λ i. choose-either UpTo6 _ _ _ (clash-to-6 _ _ _) (plain-to-6 _ _ (omega arith))) (l .count))
-    (first-to-6 _ (λ i. choose-either UpTo6 _ _ _ (plain-to-6 _ _ (omega arith)) (plain-to-6 _ _ (omega arith))) (l .count)))
-    (first-to-6 _ (λ i. choose-either UpTo6 _ _ _ (plain-to-6 _ _ (omega arith)) (choose-either UpTo6 _ _ _ (plain-to-6 _ _ (omega arith)) (plain-to-6 _ _ (omega arith)))) (l .count)))
-    (choose-either UpTo6 _ _ _ (plain-to-6 _ _ (omega arith)) (choose-either UpTo6 _ _ _ (plain-to-6 _ _ (omega arith)) (plain-to-6 _ _ (omega arith))))
+    choose-either (UpTo 6) _ _ _
+    (choose-either (UpTo 6) _ _ _
+    (choose-either (UpTo 6) _ _ _ (cycle-most (l .tasks) (l .count)) (up-to-6 5 _ (memory-most (l .tasks) (l .count) supply) (omega arith)))
+    (up-to-6 4 _ (tasks-most (l .tasks) (l .count)) (omega arith)))
+    (up-to-6 2 _ (count-most (l .count)) (omega arith))
 
 -- A broken bound is answered by what is found.
 pub bounds-found : (l : TaskList) (supply : ℕ) → (found l supply .number ≡ 0 → ⊥) → boundsAnswer (boundsOf l supply) ≡ found l supply
@@ -276,4 +294,4 @@ broken-tells l supply number task reached period e =
     (eq-or-ne (found l supply .number) 0)
 
 pub broken-number : (l : TaskList) (supply number task reached period : ℕ) → boundsOf l supply ≡ Broken number task reached period → number ≤ 6
-broken-number l supply number task reached period e = omega (arith, broken-tells l supply number task reached period e .number-is, found-most l supply .to-6)
+broken-number l supply number task reached period e = omega (arith, broken-tells l supply number task reached period e .number-is, found-most l supply .to-most)

@@ -5,8 +5,8 @@ ghost use Rattle.basis.specs.Choose.{within};
 ghost use Rattle.basis.specs.Answer.{_orElse_, firstFound};
 ghost use Rattle.tasks.specs.List.{dueOf, keyOf, runtimeOf};
 ghost use Rattle.tasks.specs.Euclid.{gcdOf, lcmOf};
-ghost use Rattle.tasks.specs.Bounds.{ofNumbers, ofTask, ofMemory, multiplied, boundsOf};
-ghost use Rattle.tasks.specs.Shapes.{asAnswer, Finds};
+ghost use Rattle.tasks.specs.Bounds.{ofNumbers, ofTask, ofMemory, boundsOf};
+ghost use Rattle.tasks.specs.Shapes.{asAnswer, Finds, multiplied};
 ghost use Rattle.tasks.specs.Kept.{AllFit};
 
 // Period and run-time in slices, sample memory in words.
