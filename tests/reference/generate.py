@@ -17,6 +17,7 @@ from model import Place, State, Task, bare, rounded_up
 SEED = 0x0B5E55ED51ACE5
 # Their own seeds, so that what stands beside them stays as it is.
 CLASHES_SEED = 0x0C1A54E55EED
+TICKS_SEED = 0x071C45EED
 DRIVES_SEED = 0x0D21FE5EED5
 STEPS_WANTED = 202000  # accepted steps in all
 
@@ -25,13 +26,15 @@ END, LIST, TABLE_FILL, TABLE_BYTES, TABLE_BYTE, TABLE_LENT, BUILD = range(7)
 LOG_FILL, LOG_LENT, LOG_CHECK, START, STATE, STEP, CONVERSION = range(7, 14)
 ENTRY, REFUSAL, LOGGED, DRIVE = range(14, 18)
 
+RUNTIME, PERIOD = range(2)  # kinds of conversion
+
 # What the end record counts, in its order.
 COUNTED = {
     "list": LIST, "build": BUILD, "start": START, "step": STEP, "conversion": CONVERSION,
     "entry": ENTRY, "refusal": REFUSAL, "logged": LOGGED, "drive": DRIVE,
 }
 
-MAGIC = b"SLICES03"
+MAGIC = b"SLICES04"
 ANSWER = "BBiIIII"  # the numbers of model.Answer
 SHORT_LOG = 64  # a lent log up to this long is part of every step's checksum
 MOST_TABLE, MOST_LOG, MOST_LIST = 4200, 66000, 272
@@ -204,12 +207,19 @@ class Cases:
             self.counts["log byte", byte] += 1
         return refusal
 
-    def conversion(self, kind, microseconds, slice_length):
-        """Kind 0 converts a run-time, 1 a period."""
-        convert = (model.runtime_in_slices, model.period_in_slices)[kind]
-        refusal, slices = convert(microseconds, slice_length)
-        self.put(CONVERSION, "BIIBI", kind, microseconds, slice_length, refusal, slices)
-        self.count("conversion", refusal)
+    def conversion(self, kind, given, answer):
+        self.put(CONVERSION, "B%dI" % len(given), kind, *given)
+        self.out += struct.pack("<BI", *answer)
+        self.count("conversion", answer[0])
+
+    def runtime(self, microseconds, slice_length, tick_cost):
+        given = microseconds, slice_length, tick_cost
+        self.conversion(RUNTIME, given, model.runtime_in_slices(*given))
+        self.counts["tick cost", min(tick_cost, 1), model.runtime_in_slices(*given)[0]] += 1
+
+    def period(self, microseconds, slice_length):
+        given = microseconds, slice_length
+        self.conversion(PERIOD, given, model.period_in_slices(*given))
 
     def entry(self, byte, count):
         self.put(ENTRY, "BQBI", byte, count, *model.read_entry(byte, count))
@@ -808,18 +818,42 @@ def full_size(cases, dice):
 # Microseconds
 
 
+MICROS = [0, 1, 2, 3, 499, 500, 501, 1000, 65535, 65536, 2 ** 31 - 1, 2 ** 31, 2 ** 31 + 1]
+MICROS += [TOP - 2, TOP - 1, TOP]
+
+
+def about_whole(dice, part):
+    """Microseconds that are so many parts, and one more and one less."""
+    whole = dice.below(TOP // part + 1) * part
+    return whole, min(whole + 1, TOP), max(whole, 1) - 1
+
+
 def conversions(cases, dice):
-    ends = [0, 1, 2, 3, 499, 500, 501, 1000, 65535, 65536, 2 ** 31 - 1, 2 ** 31, 2 ** 31 + 1]
-    ends += [TOP - 2, TOP - 1, TOP]
-    for kind in (0, 1):
-        for microseconds in ends:
-            for slice_length in ends:
-                cases.conversion(kind, microseconds, slice_length)
+    """Run-times without a tick cost, and periods."""
+    for convert in (lambda *given: cases.runtime(*given, 0), cases.period):
+        for microseconds in MICROS:
+            for slice_length in MICROS:
+                convert(microseconds, slice_length)
         for _ in range(250):
             slice_length = 1 + dice.below(dice.pick([10, 1000, 2 ** 20, TOP]))
-            whole = dice.below(TOP // slice_length + 1) * slice_length
-            for microseconds in (whole, min(whole + 1, TOP), max(whole, 1) - 1):
-                cases.conversion(kind, microseconds, slice_length)
+            for microseconds in about_whole(dice, slice_length):
+                convert(microseconds, slice_length)
+
+
+def ticked_runtimes(cases, dice):
+    """Run-times with a tick cost that is small, about half, just below, at or above the slice length."""
+    for microseconds in MICROS:
+        for slice_length in MICROS:
+            for tick_cost in MICROS[1:]:
+                cases.runtime(microseconds, slice_length, tick_cost)
+    for _ in range(250):
+        slice_length = 2 + dice.below(dice.pick([10, 1000, 2 ** 20, TOP - 1]))
+        some = dice.pick([1, 20, slice_length // 2, slice_length - 1, 1 + dice.below(slice_length)])
+        tick_cost = min(some, slice_length - 1)
+        for microseconds in about_whole(dice, slice_length - tick_cost):
+            cases.runtime(microseconds, slice_length, tick_cost)
+        for too_much in (slice_length, min(slice_length + 1, TOP)):
+            cases.runtime(dice.below(TOP), slice_length, too_much)
 
 
 # Readings
@@ -910,6 +944,7 @@ def drives(cases, dice):
 def all_cases():
     dice, cases = Dice(SEED), Cases()
     conversions(cases, dice)
+    ticked_runtimes(cases, Dice(TICKS_SEED))
     tables, accepted = [], []
     for tasks, supply in bound_lists():
         answer = list_and_builds(cases, dice, tasks, supply)
@@ -955,6 +990,7 @@ def all_there(cases):
     ):
         for refusal in refusals:
             assert cases.counts[what, refusal], (what, refusal)
+    assert all(cases.counts["tick cost", some, refusal] for some in (0, 1) for refusal in (0, 17))
     assert cases.counts["whole drives"] >= 100 and cases.counts["clash of several"] >= 30
     return cases.counts["list"] >= 2000 and cases.counts["step"] >= 200000
 
@@ -975,6 +1011,8 @@ def report(cases):
     print("states handed in %d, log checks %d" % (cases.counts["state"], cases.counts["log check"]))
     print("read: entries %d, refusals %d, log bytes %d" % tuple(
         cases.counts[what] for what in ("entry", "refusal", "logged")))
+    print("run-times with a tick cost: accepted %d, refused %d" % tuple(
+        cases.counts["tick cost", 1, refusal] for refusal in (0, 17)))
     print("drives to the cycle's end: %d" % cases.counts["whole drives"])
     places = ["%d: %d" % (n, cases.counts["clash at", n]) for n in range(2, 17)]
     print("clashes by place %s" % ", ".join(places))

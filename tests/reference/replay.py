@@ -123,10 +123,11 @@ class Replay:
         return clock, report
 
     def read_conversion(self):
-        kind, microseconds, slice_length = self.take("BII")
+        kind, = self.take("B")
         convert = (model.runtime_in_slices, model.period_in_slices)[kind]
-        self.compare(self.take("BI"), convert(microseconds, slice_length))
-        return kind, microseconds, slice_length
+        given = self.take(("III", "II")[kind])
+        self.compare(self.take("BI"), convert(*given))
+        return (kind, *given)
 
     def read_entry(self):
         byte, count = self.take("BQ")

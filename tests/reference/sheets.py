@@ -13,6 +13,7 @@ ROOT = os.path.join(HERE, "..", "..")
 NAMES = ["positioner", "power meter", "sweep", "link watch", "log writer"]
 WORDS = {0: "none", 1: "done", 2: "over", 3: "late"}
 SLICE = 500
+TICK = 20
 SUPPLY = 65536
 
 # name: (period and run-time in microseconds), needs
@@ -23,7 +24,7 @@ SHEETS = {
     ),
     "calibration": (
         [(10000, 1900), (7500, 2000), (30000, 6750), (6000, 350), (60000, 2700)],
-        [[3, 3, 2, 3, 7, 3], [4, 3, 3, 3, 4, 3, 3, 3], [12, 16], [1] * 10, [5]],
+        [[3, 3, 2, 3, 7, 3], [5, 3, 3, 3, 5, 3, 3, 3], [12, 16], [1] * 10, [5]],
     ),
 }
 
@@ -34,13 +35,13 @@ def sheet(name):
         tasks = tuple(model.Task(*map(int, row)) for row in csv.reader(file))
     for task, (period, runtime) in zip(tasks, micros):
         assert model.period_in_slices(period, SLICE) == (0, task.period)
-        assert model.runtime_in_slices(runtime, SLICE) == (0, task.runtime)
+        assert model.runtime_in_slices(runtime, SLICE, TICK) == (0, task.runtime)
     answer = model.verdict(tasks, SUPPLY)
     assert answer.refusal == 0
     # memory decides nothing but refusal 5, and the model's drive has no supply
     log, ends = model.drive(model.bare(*((t.period, t.runtime) for t in tasks)), model.NONE_NAMED, needs)
     lines = [
-        "%s: 5 tasks in slices of %d microseconds" % (name, SLICE),
+        "%s: 5 tasks in slices of %d microseconds, tick cost %d" % (name, SLICE, TICK),
         "cycle %d, jobs %d; tightest task %d %s, margin %d"
         % (answer.cycle, answer.jobs, answer.task, NAMES[answer.task - 1], answer.margin),
         "run by the table, slices closed %d" % answer.cycle,

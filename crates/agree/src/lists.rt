@@ -72,10 +72,11 @@ pub(crate) fn list(hand: Hand) -> Hand {
     judged(hand, supply, taken::take_list(count))
 }
 
-// Kind 0 is a run-time, 1 a period.
+// Kind 0 is a run-time, whose tick cost follows, 1 a period.
 fn converted(kind: u8, micros: u32, length: u32) -> Slices {
     if kind == 0 {
-        units::runtime_slices(micros, length)
+        let tick = taken::word();
+        units::runtime_slices(micros, length, tick)
     } else {
         units::period_slices(micros, length)
     }

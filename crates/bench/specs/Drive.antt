@@ -15,8 +15,8 @@ use Rattle.bench.specs.declared.Driven.{Driven}
 use Rattle.bench.specs.Course.{Course, needIn, courseAt}
 
 -- A task given in microseconds. A refused conversion is 0, which the list's checks refuse.
-unfoldable pub taskIn : ℕ → ℕ → ℕ → ℕ → Task
-taskIn period runtime memory slice = record { period = slicesOf (periodSlices period slice); runtime = slicesOf (runtimeSlices runtime slice); memory = memory }
+unfoldable pub taskIn : ℕ → ℕ → ℕ → ℕ → ℕ → Task
+taskIn period runtime memory slice tick = record { period = slicesOf (periodSlices period slice); runtime = slicesOf (runtimeSlices runtime slice tick); memory = memory }
 
 -- What the start leaves, with no job ended.
 unfoldable pub begun : TaskList → ℕ → Asked → ℕ → List ℕ → List ℕ → Course

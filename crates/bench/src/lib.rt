@@ -18,6 +18,15 @@ use tasks::TaskList;
 use units::Slices;
 use verdict::Verdict;
 
+// The bench's slice, in microseconds;
+pub const SLICE: u32 = 500;
+
+// what the tick handler takes of each;
+pub const TICK: u32 = 20;
+
+// and its words of sample memory.
+pub const SUPPLY: u32 = 65536;
+
 // What a drive comes to: the answers of table building and of the start, and the last state. The run was whole if the last
 // position is the cycle.
 pub struct Driven {
@@ -37,11 +46,11 @@ fn slices_or_zero(slices: Slices) -> u32
 }
 
 // A task from microseconds.
-pub fn task_in(period: u32, runtime: u32, memory: u32, slice: u32) -> Task
-    ensures { λ r. ⌜ r ≡ taskIn period runtime memory slice ⌝ }
+pub fn task_in(period: u32, runtime: u32, memory: u32, slice: u32, tick: u32) -> Task
+    ensures { λ r. ⌜ r ≡ taskIn period runtime memory slice tick ⌝ }
 {
     let every = slices_or_zero(units::period_slices(period, slice));
-    let most = slices_or_zero(units::runtime_slices(runtime, slice));
+    let most = slices_or_zero(units::runtime_slices(runtime, slice, tick));
     Task {
         period: every,
         runtime: most,

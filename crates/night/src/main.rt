@@ -1,13 +1,10 @@
 // The night list: one cycle with no mode named, each job with a need of its own.
+use bench::SLICE;
+use bench::SUPPLY;
+use bench::TICK;
 use start::Asked;
 use tasks::Task;
 use tasks::TaskList;
-
-// Microseconds.
-const SLICE: u32 = 500;
-
-// Words of sample memory.
-const SUPPLY: u32 = 65536;
 
 // Positioner, power meter, sweep, link watch, log writer: period and run-time in microseconds, memory in words.
 fn list() -> TaskList {
@@ -16,11 +13,11 @@ fn list() -> TaskList {
         runtime: 0,
         memory: 0,
     }; 16];
-    tasks[0] = bench::task_in(20000, 2800, 128, SLICE);
-    tasks[1] = bench::task_in(10000, 2000, 1024, SLICE);
-    tasks[2] = bench::task_in(40000, 11900, 16384, SLICE);
-    tasks[3] = bench::task_in(5000, 350, 64, SLICE);
-    tasks[4] = bench::task_in(80000, 5800, 8192, SLICE);
+    tasks[0] = bench::task_in(20000, 2800, 128, SLICE, TICK);
+    tasks[1] = bench::task_in(10000, 2000, 1024, SLICE, TICK);
+    tasks[2] = bench::task_in(40000, 11900, 16384, SLICE, TICK);
+    tasks[3] = bench::task_in(5000, 350, 64, SLICE, TICK);
+    tasks[4] = bench::task_in(80000, 5800, 8192, SLICE, TICK);
     TaskList { tasks, count: 5 }
 }
 
@@ -78,11 +75,5 @@ fn main() {
         &mut log,
         &mut ends,
     );
-    sheet::print(
-        b"night: 5 tasks in slices of 500 microseconds\n",
-        tasks,
-        driven,
-        &log,
-        &ends,
-    );
+    sheet::print(b"night", tasks, driven, &log, &ends);
 }

@@ -6,8 +6,11 @@ use mathlib.Core.Bool.{true, false}
 use mathlib.Core.List.{List}
 use mathlib.Core.Logic.{_↔_}
 use Prim.Native.Nat.{ℕ, suc, _+_, _*_, _≤_, _<_}
+use lib.Dec.{eqb}
 use lib.ListN.{length, getD}
 use Rattle.basis.specs.Bytes.{at}
+use Rattle.basis.specs.Choose.{choose}
+use Rattle.basis.specs.Slices.{ceil}
 use Rattle.basis.specs.Rules.{GoesBy, no-more, _then_}
 use Rattle.tasks.specs.declared.TaskList.{TaskList}
 use Rattle.tasks.specs.List.{taskAt}
@@ -27,6 +30,7 @@ use Rattle.run.specs.Sound.{SoundState}
 use Rattle.run.specs.StateAfter.{HandedOn, Room}
 use Rattle.run.specs.Who.{running, whoOf, runnerAnswer}
 use Rattle.run.specs.Step.{Stepped, closedAnswer}
+use Rattle.units.specs.declared.Slices.the-variants as slices
 use Rattle.units.specs.Conversion.{runtimeSlices, periodSlices, slicesOf, slicesAnswer}
 use Rattle.units.specs.Laws.{Fewest}
 use Rattle.readings.specs.declared.Entry.{Entry}
@@ -35,7 +39,7 @@ use Rattle.readings.specs.declared.Logged.the-variants.{NoResult, Done}
 use Rattle.readings.specs.Reading.{entryOf, refusalOf, loggedOf, entryByte, refusalNumber, loggedByte}
 use Rattle.bench.specs.Drive.{taskIn}
 use Rattle.promises.specs.Program.{Program}
-use Rattle.promises.specs.Refusals.{boundsRules, listRules, buildRules, startRules, whoRules, stepRules, no-length, not-whole}
+use Rattle.promises.specs.Refusals.{boundsRules, listRules, buildRules, startRules, whoRules, stepRules, no-share, not-whole}
 
 -- ---- a start
 -- A state of no tasks in table mode, every number 0 and no job ended, which is not sound.
@@ -136,15 +140,19 @@ pub record Demand1 : Type 0 where
       → Stepped s table clock report log log′ r → (closedAnswer (r .answer) .number ≡ 0 → ⊥) → (r .state ≡ s) × (log′ ≡ log)
   pub step-closed : (s : State) (table : List ℕ) (clock report : ℕ) (log log′ : List ℕ) (r : Next)
       → Stepped s table clock report log log′ r → closedAnswer (r .answer) .number ≡ 0 → Room s → ClosedSlice s table clock report log log′ (r .state)
-  -- Conversions: 17; refused, the answer is 0. A run-time takes the fewest slices that are no shorter, a period exactly its slices.
-  pub runtime : (micros slice : ℕ) → GoesBy (no-length slice then no-more) (slicesAnswer (runtimeSlices micros slice))
+  -- Conversions: 17; refused, the answer is 0. A run-time takes the fewest slices that hold it beside a tick in each, no fewer
+  -- where the tick costs more, and without a tick cost what it took by the whole slice length; a period exactly its slices.
+  pub runtime : (micros slice tick : ℕ) → GoesBy (no-share slice tick then no-more) (slicesAnswer (runtimeSlices micros slice tick))
   pub period : (micros slice : ℕ) → GoesBy (not-whole micros slice then no-more) (slicesAnswer (periodSlices micros slice))
-  pub runtime-fewest : (micros slice : ℕ) → 0 < slice → Fewest micros slice (slicesOf (runtimeSlices micros slice))
+  pub runtime-fewest : (micros slice tick : ℕ) → tick < slice → Fewest micros slice tick (slicesOf (runtimeSlices micros slice tick))
+  pub larger-tick-no-fewer : (micros slice tick tick′ : ℕ) → tick ≤ tick′ → tick′ < slice → slicesOf (runtimeSlices micros slice tick) ≤ slicesOf (runtimeSlices micros slice tick′)
+  pub without-tick : (micros slice : ℕ) → runtimeSlices micros slice 0 ≡ choose (eqb slice 0) slices.Refused (slices.Count (ceil micros slice))
   pub period-exact : (n slice : ℕ) → 0 < slice → slicesOf (periodSlices (n * slice) slice) ≡ n
   -- The bench's task from microseconds: what the conversions give, and 0 for what they refuse.
-  pub task-whole : (n runtime memory slice : ℕ) → 0 < slice → taskIn (n * slice) runtime memory slice .period ≡ n
-  pub task-runtime : (period micros memory slice : ℕ) → 0 < slice → Fewest micros slice (taskIn period micros memory slice .runtime)
-  pub task-refused : (micros runtime memory slice : ℕ) → (slicesAnswer (periodSlices micros slice) .number ≡ 0 → ⊥) → taskIn micros runtime memory slice .period ≡ 0
+  pub task-whole : (n runtime memory slice tick : ℕ) → 0 < slice → taskIn (n * slice) runtime memory slice tick .period ≡ n
+  pub task-runtime : (period micros memory slice tick : ℕ) → tick < slice → Fewest micros slice tick (taskIn period micros memory slice tick .runtime)
+  pub task-no-period : (micros runtime memory slice tick : ℕ) → (slicesAnswer (periodSlices micros slice) .number ≡ 0 → ⊥) → taskIn micros runtime memory slice tick .period ≡ 0
+  pub task-no-runtime : (period micros memory slice tick : ℕ) → (slicesAnswer (runtimeSlices micros slice tick) .number ≡ 0 → ⊥) → taskIn period micros memory slice tick .runtime ≡ 0
   -- A reading stands for the number that was read, whatever it is; a result byte of 0 means no result, and only a 1 reads as done.
   pub entry-said : (byte count : ℕ) → entryByte (entryOf byte count) ≡ byte
   pub refusal-said : (number : ℕ) → refusalNumber (refusalOf number) ≡ number

@@ -40,8 +40,8 @@ use Rattle.run.specs.LogAfter.{log-length, log-elsewhere, log-done, log-over, l
 use Rattle.units.specs.declared.Slices.{Slices}
 use Rattle.units.specs.declared.Slices.the-variants.{Count}
 use Rattle.units.specs.declared.Slices.the-variants as slices
-use Rattle.units.specs.Conversion.{periodSlices, slicesOf, slicesAnswer}
-use Rattle.units.specs.Laws.{runtime-fewest, period-accepted}
+use Rattle.units.specs.Conversion.{runtimeSlices, periodSlices, slicesOf, slicesAnswer}
+use Rattle.units.specs.Laws.{runtime-fewest, larger-tick-no-fewer, without-tick, period-accepted}
 use Rattle.readings.specs.declared.Entry.the-variants.{NoEntry}
 use Rattle.readings.specs.Reading.{entryOf}
 use Rattle.readings.specs.Laws.{reads-no-entry, idle-read, task-read, no-entry-read, entry-byte, refusal-number, logged-byte, reads-results, done-is-one}
@@ -283,10 +283,13 @@ demand-1 = record {
   runtime = runtime-goes;
   period = period-goes;
   runtime-fewest = runtime-fewest;
+  larger-tick-no-fewer = larger-tick-no-fewer;
+  without-tick = without-tick;
   period-exact = period-exact;
-  task-whole = λ n runtime memory slice pos. period-exact n slice pos;
-  task-runtime = λ period micros memory slice pos. runtime-fewest micros slice pos;
-  task-refused = λ micros runtime memory slice nz. none-of-refused (periodSlices micros slice) nz;
+  task-whole = λ n runtime memory slice tick pos. period-exact n slice pos;
+  task-runtime = λ period micros memory slice tick less. runtime-fewest micros slice tick less;
+  task-no-period = λ micros runtime memory slice tick nz. none-of-refused (periodSlices micros slice) nz;
+  task-no-runtime = λ period micros memory slice tick nz. none-of-refused (runtimeSlices micros slice tick) nz;
   entry-said = entry-byte;
   refusal-said = refusal-number;
   logged-said = logged-byte;

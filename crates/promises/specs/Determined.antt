@@ -111,8 +111,8 @@ pub read-logged : (byte : ℕ) (r r′ : Logged) → r ≡ loggedOf byte → r�
 read-logged byte r r′ e e′ = one-answer e e′
 
 -- units: runtime_slices, period_slices
-pub runtime-slices : (micros slice : ℕ) (r r′ : Slices) → r ≡ runtimeSlices micros slice → r′ ≡ runtimeSlices micros slice → r ≡ r′
-runtime-slices micros slice r r′ e e′ = one-answer e e′
+pub runtime-slices : (micros slice tick : ℕ) (r r′ : Slices) → r ≡ runtimeSlices micros slice tick → r′ ≡ runtimeSlices micros slice tick → r ≡ r′
+runtime-slices micros slice tick r r′ e e′ = one-answer e e′
 
 pub period-slices : (micros slice : ℕ) (r r′ : Slices) → r ≡ periodSlices micros slice → r′ ≡ periodSlices micros slice → r ≡ r′
 period-slices micros slice r r′ e e′ = one-answer e e′
@@ -131,8 +131,8 @@ pub write-table : (table : List ℕ) (cycle : ℕ) (old new new′ : List ℕ) (
 write-table table cycle old new new′ r r′ W W′ = written-one W W′
 
 -- bench: task_in; close_slice and drive, with the lent bytes and ends
-pub task-in : (period runtime memory slice : ℕ) (r r′ : Task) → r ≡ taskIn period runtime memory slice → r′ ≡ taskIn period runtime memory slice → r ≡ r′
-task-in period runtime memory slice r r′ e e′ = one-answer e e′
+pub task-in : (period runtime memory slice tick : ℕ) (r r′ : Task) → r ≡ taskIn period runtime memory slice tick → r′ ≡ taskIn period runtime memory slice tick → r ≡ r′
+task-in period runtime memory slice tick r r′ e e′ = one-answer e e′
 
 pub close-slice : (table : List ℕ) (need : Demand) (c : Course) (log log′ ends ends′ : List ℕ) (r r′ : Next)
     → SliceClosed table need c log ends r → SliceClosed table need c log′ ends′ r′ → (r ≡ r′) × (log ≡ log′) × (ends ≡ ends′)

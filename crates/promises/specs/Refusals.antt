@@ -125,9 +125,10 @@ module _ (s : State) (table : List ℕ) where
   stepRules clock report log = whoRules andThen (log-short log then clock-wrong clock then report-wrong report then no-more)
 
 -- ---- conversions
--- 17: slice length 0, or a period that is not a whole number of slices.
-abbrev pub no-length : ℕ → Rule
-no-length slice = rule 17 (slice ≡ 0)
+-- 17: slice length 0; of a run-time, a tick cost that is not below the slice length; a period that is not a whole number of
+-- slices.
+abbrev pub no-share : ℕ → ℕ → Rule
+no-share slice tick = rule 17 ((slice ≡ 0) ⊎ (slice ≤ tick))
 
 abbrev pub not-whole : ℕ → ℕ → Rule
 not-whole micros slice = rule 17 ((slice ≡ 0) ⊎ ((n : ℕ) → micros ≡ n * slice → ⊥))

@@ -9,7 +9,7 @@ use native.Mathlib.Nat.{mod-eq-of-lt}
 use lib.Dec.{ltb, eqb}
 use lib.IntN.{subℕ}
 use lib.ListN.{length, getD}
-use borrow.Author.Tests.{lt-ltb, ltb-true, eq-eqb, ne-eqb, eqb-true, eqb-false}
+use borrow.Author.Tests.{lt-ltb, ltb-true, le-leb, leb-true, eq-eqb, ne-eqb, eqb-true, eqb-false}
 use Rattle.basis.specs.Choose.{choose, both-true, choose-yes, choose-no, choose-either, of-choice, bool-cases, le-or-lt, eq-or-ne, within, within-tells, is-within}
 use Rattle.basis.specs.Answer.{Answer, alike, refusal, clash, none, _orElse_, firstFound, none-number, else-choose, found-none, none-found}
 use Rattle.basis.specs.Rules.{rule, saying, Breaks, no-more, _then_, _andThen_, Refused, GoesBy, goes-on, goes-then, goes-as, Refuses, plain-refuses, breaks-saying, breaks-naming, saying-told, goes-by-rule, goes-unless, first-goes}
@@ -41,7 +41,7 @@ use Rattle.units.specs.Conversion.{runtimeSlices, periodSlices, slicesAnswer}
 use Rattle.units.specs.Laws.{period-accepted, period-refused}
 use Rattle.promises.specs.Demand2.{FirstLate}
 use Rattle.promises.specs.Demand2Holds.{not-by-bounds, accepted-exactly, late-named, fails-first-alone}
-use Rattle.promises.specs.Refusals.{no-tasks, more-than-16, FirstWith, PeriodOutside, RuntimeOutside, period-outside, runtime-outside, FirstAbove, memory-exceeds, cycle-above, deadline-missed, table-short, log-short-for, boundsRules, listRules, buildRules, startRules, Follows, one-more, wraps, not-sound, run-over, no-entry, log-short, clock-wrong, report-wrong, whoRules, stepRules, no-length, not-whole}
+use Rattle.promises.specs.Refusals.{no-tasks, more-than-16, FirstWith, PeriodOutside, RuntimeOutside, period-outside, runtime-outside, FirstAbove, memory-exceeds, cycle-above, deadline-missed, table-short, log-short-for, boundsRules, listRules, buildRules, startRules, Follows, one-more, wraps, not-sound, run-over, no-entry, log-short, clock-wrong, report-wrong, whoRules, stepRules, no-share, not-whole}
 
 -- ---- refusals 1 to 6
 outside-tells : (high x : ℕ) → (not (within 1 high x) ≡ true) ↔ ((x ≡ 0) ⊎ (high < x))
@@ -392,10 +392,13 @@ module _ (s : State) (table : List ℕ) (clock report : ℕ) (log : List ℕ) wh
   step-goes log′ r S u32 = subst (GoesBy (stepRules s table clock report log)) (sym (ap closedAnswer (S .answer) ∙ closed-number _ ∙ step-unnamed)) (step-found-goes u32)
 
 -- ---- refusal 17
-pub runtime-goes : (micros slice : ℕ) → GoesBy (no-length slice then no-more) (slicesAnswer (runtimeSlices micros slice))
+pub runtime-goes : (micros slice tick : ℕ) → GoesBy (no-share slice tick then no-more) (slicesAnswer (runtimeSlices micros slice tick))
 unfolding runtimeSlices slicesAnswer
-runtime-goes micros slice =
-    subst (GoesBy (no-length slice then no-more)) (sym (of-choice slicesAnswer _ _ _)) (goes-by-rule 16 _ _ _ none-number (eqb-true slice 0) (eq-eqb slice 0))
+runtime-goes micros slice tick =
+    subst (GoesBy (no-share slice tick then no-more)) (sym (of-choice slicesAnswer _ _ _))
+    (goes-by-rule 16 _ _ _ none-number
+    (λ t. inr (leb-true slice tick t))
+    (λ h. le-leb slice tick (⊎-elim (λ (z : slice ≡ 0). omega arith) (λ (no : slice ≤ tick). no) h)))
 
 pub period-goes : (micros slice : ℕ) → GoesBy (not-whole micros slice then no-more) (slicesAnswer (periodSlices micros slice))
 unfolding periodSlices slicesAnswer

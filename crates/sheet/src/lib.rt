@@ -1,5 +1,7 @@
 // The sheet that a drive of the bench's five tasks prints: what list it is, how tight, and how each job ended.
 use bench::Driven;
+use bench::SLICE;
+use bench::TICK;
 use libc::STDOUT_FILENO;
 use readings::Logged;
 use readings::Refusal;
@@ -183,9 +185,18 @@ fn say_tasks(list: TaskList, cycle: u32, log: &[u8], ends: &[u32]) {
     }
 }
 
+// Which list it is, and the slices that it was made for.
+fn say_title(name: &[u8], count: usize) {
+    say(name);
+    say_number(b": ", count as u64);
+    say_number(b" tasks in slices of ", SLICE as u64);
+    say_number(b" microseconds, tick cost ", TICK as u64);
+    say(b"\n");
+}
+
 // Prints the sheet of a drive.
-pub fn print(title: &[u8], list: TaskList, driven: Driven, log: &[u8], ends: &[u32]) {
-    say(title);
+pub fn print(name: &[u8], list: TaskList, driven: Driven, log: &[u8], ends: &[u32]) {
+    say_title(name, list.count);
     let built = driven.built;
     let begun = driven.begun;
     let state = driven.state;

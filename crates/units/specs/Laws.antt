@@ -1,33 +1,56 @@
 -- What the conversions come to: when they refuse, and which count they give.
 use mathlib.Core.Path.{_≡_, refl}
-use mathlib.Core.Logic.{_⊎_, inl, inr, ⊎-elim}
-use Prim.Native.Nat.{ℕ, _*_, _/_, _%_, _≤_, _<_}
+use mathlib.Core.Logic.{_⊎_, inl, inr, ⊎-elim, _↔_}
+use Prim.Native.Nat.{ℕ, zero, suc, _+_, _-_, _*_, _/_, _%_, _≤_, _<_}
 use native.Mathlib.Omega.{arith}
-use native.Mathlib.Nat.{div-add-mod', div-eq-of-eq-mul-left, mul-mod-left}
-use borrow.Author.Tests.{eq-eqb, ne-eqb}
+use native.Mathlib.Nat.{div-add-mod', div-eq-of-eq-mul-left, mul-mod-left, mul-sub, mul-le-mul-left}
+use lib.Dec.{eqb}
+use borrow.Author.Tests.{eq-eqb, ne-eqb, lt-leb}
 use Rattle.basis.specs.Choose.{choose, eq-or-ne}
 use Rattle.basis.specs.Slices.{ceil, ceil-covers, ceil-least}
 use Rattle.units.specs.declared.Slices.the-variants.{Count, Refused}
 use Rattle.units.specs.Conversion.{runtimeSlices, periodSlices, slicesOf}
 
--- A run-time is refused with slice length 0.
-pub runtime-refused : (micros : ℕ) → runtimeSlices micros 0 ≡ Refused
+-- n slices hold a run-time if it has room in them beside a tick in each,
+unfoldable pub Holds : ℕ → ℕ → ℕ → ℕ → Type 0
+Holds micros slice tick n = micros + n * tick ≤ n * slice
+
+-- which is that the shares that the tick leaves of them are no shorter together.
+pub holds-by-shares : (micros slice tick n : ℕ) → tick < slice → Holds micros slice tick n ↔ (micros ≤ n * (slice - tick))
+unfolding Holds
+holds-by-shares micros slice tick n less =
+    let whole : n * tick ≤ n * slice = mul-le-mul-left n (omega arith) in
+    (λ h. omega (arith, mul-sub n slice tick, whole), λ h. omega (arith, mul-sub n slice tick, whole))
+
+-- A run-time takes the fewest slices that hold it,
+pub record Fewest (micros slice tick n : ℕ) : Type 0 where
+  pub holds : Holds micros slice tick n
+  pub fewest : (k : ℕ) → Holds micros slice tick k → n ≤ k
+
+pub runtime-fewest : (micros slice tick : ℕ) → tick < slice → Fewest micros slice tick (slicesOf (runtimeSlices micros slice tick))
+unfolding runtimeSlices slicesOf choose
+runtime-fewest micros slice tick less =
+    let share : 0 < slice - tick = omega arith in
+    rw (lt-leb slice tick less) (record {
+      holds = holds-by-shares micros slice tick _ less .1 (ceil-covers (slice - tick) share micros);
+      fewest = λ k h. ceil-least (slice - tick) share micros k (holds-by-shares micros slice tick k less .0 h);
+    })
+
+-- so a larger tick cost never gives fewer,
+pub larger-tick-no-fewer : (micros slice tick tick′ : ℕ) → tick ≤ tick′ → tick′ < slice → slicesOf (runtimeSlices micros slice tick) ≤ slicesOf (runtimeSlices micros slice tick′)
+unfolding Holds
+larger-tick-no-fewer micros slice tick tick′ more less =
+    let n = slicesOf (runtimeSlices micros slice tick′) in
+    let held = runtime-fewest micros slice tick′ less .holds in
+    runtime-fewest micros slice tick (omega arith) .fewest n (omega (arith, held, mul-le-mul-left n more))
+
+-- and without one it is division by the whole slice length, rounded up, refused for slice length 0 alone.
+pub without-tick : (micros slice : ℕ) → runtimeSlices micros slice 0 ≡ choose (eqb slice 0) Refused (Count (ceil micros slice))
 unfolding runtimeSlices choose
-runtime-refused micros = refl
-
--- With any other it takes the fewest slices that are no shorter together.
-pub record Fewest (micros slice n : ℕ) : Type 0 where
-  pub covers : micros ≤ n * slice
-  pub fewest : (k : ℕ) → micros ≤ k * slice → n ≤ k
-
-pub runtime-accepted : (micros slice : ℕ) → 0 < slice → runtimeSlices micros slice ≡ Count (ceil micros slice)
-unfolding runtimeSlices choose
-runtime-accepted micros slice pos = rw (ne-eqb slice 0 (λ e. omega arith))
-
-pub runtime-fewest : (micros slice : ℕ) → 0 < slice → Fewest micros slice (slicesOf (runtimeSlices micros slice))
-unfolding slicesOf
-runtime-fewest micros slice pos =
-    rw (runtime-accepted micros slice pos) (record { covers = ceil-covers slice pos micros; fewest = ceil-least slice pos micros })
+without-tick micros zero = refl
+without-tick micros (suc n) =
+    let whole : suc n - 0 ≡ suc n = omega arith in
+    rw (lt-leb (suc n) 0 (omega arith), ne-eqb (suc n) 0 (λ e. omega arith), whole)
 
 -- A period of n slices is accepted as n, and a period that no n makes up is refused.
 pub period-accepted : (n slice : ℕ) → 0 < slice → periodSlices (n * slice) slice ≡ Count n
@@ -45,15 +68,23 @@ period-refused micros slice (inr none) =
     rw (ne-eqb slice 0 ne, ne-eqb (micros % slice) 0 (λ z. none (micros / slice) (omega (arith, div-add-mod' micros slice)))))
     (eq-or-ne slice 0)
 
--- Worked by hand, to the ends of 32 bits.
+-- Worked by hand, to the ends of 32 bits: run-times by slice length and tick cost, periods by slice length.
 pub worked :
-    (runtimeSlices 1000 500 ≡ Count 2)
-    × (runtimeSlices 1001 500 ≡ Count 3)
-    × (runtimeSlices 0 500 ≡ Count 0)
-    × (runtimeSlices 1000 0 ≡ Refused)
-    × (runtimeSlices 4294967295 1 ≡ Count 4294967295)
-    × (runtimeSlices 4294967295 2 ≡ Count 2147483648)
-    × (runtimeSlices 4294967295 4294967295 ≡ Count 1)
+    (runtimeSlices 1000 500 20 ≡ Count 3)
+    × (runtimeSlices 1000 500 0 ≡ Count 2)
+    × (runtimeSlices 1001 500 0 ≡ Count 3)
+    × (runtimeSlices 960 500 20 ≡ Count 2)
+    × (runtimeSlices 961 500 20 ≡ Count 3)
+    × (runtimeSlices 0 500 20 ≡ Count 0)
+    × (runtimeSlices 1000 500 499 ≡ Count 1000)
+    × (runtimeSlices 1000 500 500 ≡ Refused)
+    × (runtimeSlices 1000 0 0 ≡ Refused)
+    × (runtimeSlices 4294967295 4294967295 4294967294 ≡ Count 4294967295)
+    × (runtimeSlices 4294967295 4294967295 4294967293 ≡ Count 2147483648)
+    × (runtimeSlices 4294967295 4294967295 1 ≡ Count 2)
+    × (runtimeSlices 4294967295 4294967295 0 ≡ Count 1)
+    × (runtimeSlices 4294967295 4294967295 4294967295 ≡ Refused)
+    × (runtimeSlices 4294967295 1 0 ≡ Count 4294967295)
     × (periodSlices 1000 500 ≡ Count 2)
     × (periodSlices 1001 500 ≡ Refused)
     × (periodSlices 0 500 ≡ Count 0)
@@ -62,4 +93,4 @@ pub worked :
     × (periodSlices 4294967295 2 ≡ Refused)
     × (periodSlices 4294967295 4294967295 ≡ Count 1)
 unfolding runtimeSlices periodSlices choose ceil
-worked = (refl, refl, refl, refl, refl, refl, refl, refl, refl, refl, refl, refl, refl, refl)
+worked = (refl, refl, refl, refl, refl, refl, refl, refl, refl, refl, refl, refl, refl, refl, refl, refl, refl, refl, refl, refl, refl, refl)

@@ -1,6 +1,6 @@
-// Microseconds to slices: a run-time by division rounded up, a period by exact division.
+// Microseconds to slices: a run-time by what the tick leaves of a slice, rounded up; a period by exact division.
 ghost use mathlib.Core.Path.{_≡_};
-ghost use Prim.Native.Nat.{_<_};
+ghost use Prim.Native.Nat.{_<_, _-_};
 ghost use Rattle.basis.specs.Slices.{ceil};
 ghost use Rattle.units.specs.Conversion.{runtimeSlices, periodSlices};
 
@@ -10,24 +10,27 @@ pub enum Slices {
     Refused,
 }
 
-// In 64 bits, where the sum cannot wrap.
-fn rounded_up(micros: u32, length: u32) -> u32
-    requires { ⌜ 0 < length ⌝ }
-    ensures { λ r. ⌜ r ≡ ceil micros length ⌝ }
+// By the share of a slice that the tick leaves. In 64 bits, where the sum cannot wrap.
+fn rounded_up(micros: u32, slice: u32, tick: u32) -> u32
+    requires { ⌜ tick < slice ⌝ }
+    ensures { λ r. ⌜ r ≡ ceil micros (slice - tick) ⌝ }
 {
-    ((micros as u64 + (length as u64 - 1)) / length as u64) as u32
+    let share = slice as u64 - tick as u64;
+    ((micros as u64 + (share - 1)) / share) as u32
 }
 
-pub fn runtime_slices(micros: u32, slice: u32) -> Slices
-    ensures { λ r. ⌜ r ≡ runtimeSlices micros slice ⌝ }
+// The tick handler takes its cost, `tick`, of every slice.
+pub fn runtime_slices(micros: u32, slice: u32, tick: u32) -> Slices
+    ensures { λ r. ⌜ r ≡ runtimeSlices micros slice tick ⌝ }
 {
-    if 0 < slice {
-        Slices::Count(rounded_up(micros, slice))
+    if tick < slice {
+        Slices::Count(rounded_up(micros, slice, tick))
     } else {
         Slices::Refused
     }
 }
 
+// The tick does not change how long a slice is.
 pub fn period_slices(micros: u32, slice: u32) -> Slices
     ensures { λ r. ⌜ r ≡ periodSlices micros slice ⌝ }
 {

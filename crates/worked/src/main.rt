@@ -1,8 +1,10 @@
-// The lists that the rules paper works by hand and that no theorem states, and its run on A: each value found beside the paper's.
+// The lists that the rules paper works by hand and that no theorem states, microseconds, and its run on A: each value found beside
+// the paper's.
 use libc::STDOUT_FILENO;
 use start::Asked;
 use tasks::Task;
 use tasks::TaskList;
+use units::Slices;
 use verdict::Verdict;
 
 // What the comparisons came to so far.
@@ -157,7 +159,7 @@ fn lists_of_one(tally: Tally) -> Tally {
 
 // 1,001 microseconds are no whole number of slices of 500: the conversion is refused, and a period of 0 after it.
 fn part_of_a_slice(tally: Tally) -> Tally {
-    let part = bench::task_in(1001, 500, 0, 500);
+    let part = bench::task_in(1001, 500, 0, 500, 0);
     let judged = take_apart(verdict::judge(list_of(part, task(0, 0), task(0, 0), 1), 0));
     let t = compare(
         tally,
@@ -182,6 +184,81 @@ fn part_of_a_slice(tally: Tally) -> Tally {
         b"1,001 microseconds in slices of 500: task",
         judged.task,
         1,
+    )
+}
+
+// A conversion's answer as the paper has it: a refused one answers 0.
+struct Converted {
+    refusal: u32,
+    slices: u32,
+}
+
+fn as_numbers(found: Slices) -> Converted {
+    match found {
+        Slices::Count(slices) => Converted { refusal: 0, slices },
+        Slices::Refused => Converted {
+            refusal: 17,
+            slices: 0,
+        },
+    }
+}
+
+fn say_runtime(micros: u32, slice: u32, tick: u32) {
+    say_number(b"", micros);
+    say_number(b" microseconds in slices of ", slice);
+    say_number(b", tick cost ", tick);
+}
+
+fn compare_runtime(
+    tally: Tally,
+    micros: u32,
+    slice: u32,
+    tick: u32,
+    refusal: u32,
+    slices: u32,
+) -> Tally {
+    let found = as_numbers(units::runtime_slices(micros, slice, tick));
+    say_runtime(micros, slice, tick);
+    let t = compare(tally, b": refusal", found.refusal, refusal);
+    say_runtime(micros, slice, tick);
+    compare(t, b": slices", found.slices, slices)
+}
+
+// The tick takes its share of every slice of a run-time; to the ends of 32 bits nothing wraps.
+fn runtimes(tally: Tally) -> Tally {
+    let t = compare_runtime(tally, 1000, 500, 20, 0, 3);
+    let t = compare_runtime(t, 1000, 500, 0, 0, 2);
+    let t = compare_runtime(t, 1000, 500, 500, 17, 0);
+    let t = compare_runtime(t, 1000, 0, 0, 17, 0);
+    let longest = 4294967295;
+    let t = compare_runtime(t, longest, longest, 0, 0, 1);
+    let t = compare_runtime(t, longest, longest, 1, 0, 2);
+    let t = compare_runtime(t, longest, longest, 4294967293, 0, 2147483648);
+    let t = compare_runtime(t, longest, longest, 4294967294, 0, 4294967295);
+    compare_runtime(t, longest, longest, longest, 17, 0)
+}
+
+// It takes nothing of a period. So a job that wants all of its 2 slices takes 3, and its list is refused.
+fn period_and_runtime(tally: Tally) -> Tally {
+    let full = bench::task_in(1000, 1000, 0, 500, 20);
+    let judged = take_apart(verdict::judge(list_of(full, task(0, 0), task(0, 0), 1), 0));
+    let t = compare(
+        tally,
+        b"1,000 of 1,000 microseconds, tick cost 20: period",
+        full.period,
+        2,
+    );
+    let t = compare(
+        t,
+        b"1,000 of 1,000 microseconds, tick cost 20: run-time",
+        full.runtime,
+        3,
+    );
+    compare(
+        t,
+        b"1,000 of 1,000 microseconds, tick cost 20: refusal",
+        judged.refusal,
+        4,
     )
 }
 
@@ -226,8 +303,10 @@ fn main() {
         differ: 0,
     };
     say(b"lists\n");
-    let lists = lists_of_two(part_of_a_slice(lists_of_one(none)));
-    let table = run_on_a(lists, b"run on A by the table\n", Asked::Table, 10);
+    let lists = lists_of_two(lists_of_one(none));
+    say(b"microseconds\n");
+    let micros = period_and_runtime(runtimes(part_of_a_slice(lists)));
+    let table = run_on_a(micros, b"run on A by the table\n", Asked::Table, 10);
     let filling = run_on_a(table, b"run on A filling\n", Asked::Filling, 6);
     say_number(b"", filling.agree);
     say_number(b" agree, ", filling.differ);

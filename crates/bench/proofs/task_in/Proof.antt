@@ -1,5 +1,6 @@
 -- `bench::task_in` meets its contract.
 use Rattle.bench.specs.Drive.{taskIn}
+use mathlib.Core.Path.{refl}
 use borrow.Author.Needs.{needs}
 use Rattle.bench.proofs.task_in.Statement.{statement}
 use Rattle.bench.proofs.task_in.Tie as tie
@@ -18,7 +19,13 @@ slices-or-zero-requires-2 c κs = search needs
 
 returns : tie.Need-returns
 unfolding taskIn
-returns c = cc
+returns c =
+    rw (
+      c .slices-or-zero2 .ensures,
+      c .before .runtime-slices .ensures,
+      c .before .before .slices-or-zero .ensures,
+      c .before .before .before .period-slices .ensures,
+    ) refl
 
 pub task-in-spec : {M : Type 1} → statement M
 task-in-spec =
