@@ -1,4 +1,5 @@
-"""The sheets of the bench's two lists, worked by the model and compared with what the programs store.
+"""The sheets of the bench's two lists, worked by the model and compared with what the programs store;
+and the numbers that docs/BENCH.md gives of other tick costs and of two chambers.
 
 The lists are read from examples/, the microseconds and the needs stand here as the programs have them.
 """
@@ -29,10 +30,14 @@ SHEETS = {
 }
 
 
+def example(name):
+    with open(os.path.join(ROOT, "examples", name + ".csv"), newline="") as file:
+        return tuple(model.Task(*map(int, row)) for row in csv.reader(file))
+
+
 def sheet(name):
     micros, needs = SHEETS[name]
-    with open(os.path.join(ROOT, "examples", name + ".csv"), newline="") as file:
-        tasks = tuple(model.Task(*map(int, row)) for row in csv.reader(file))
+    tasks = example(name)
     for task, (period, runtime) in zip(tasks, micros):
         assert model.period_in_slices(period, SLICE) == (0, task.period)
         assert model.runtime_in_slices(runtime, SLICE, TICK) == (0, task.runtime)
@@ -54,8 +59,38 @@ def sheet(name):
     return "\n".join(lines) + "\n"
 
 
+def accepted_with(name, tick_cost):
+    runtimes = [model.runtime_in_slices(runtime, SLICE, tick_cost)[1] for _, runtime in SHEETS[name][0]]
+    tasks = [task._replace(runtime=runtime) for task, runtime in zip(example(name), runtimes)]
+    return model.verdict(tasks, SUPPLY).refusal == 0
+
+
+def slower(task, times):
+    return task._replace(period=times * task.period)
+
+
+def other_numbers():
+    """Any tick cost up to 78 will do. Two chambers are too much at full and at half their pace, the link
+    watch at its own; with the power meter of chamber 2 every 40 slices they are what the example has."""
+    assert all(accepted_with(name, cost) for name in SHEETS for cost in range(79))
+    assert not all(accepted_with(name, 79) for name in SHEETS)
+    both = example("night") + example("calibration")
+    assert model.verdict(both, SUPPLY) == model.refused(7, 6, -3)
+    link_watch = NAMES.index("link watch")
+    half = [slower(task, 1 if i % len(NAMES) == link_watch else 2) for i, task in enumerate(both)]
+    assert model.verdict(half, SUPPLY) == model.refused(7, 3, -1)
+    half[6] = half[6]._replace(period=40)
+    assert tuple(half) == example("two-chambers")
+    answer = model.verdict(half, SUPPLY)
+    assert answer == model.Answer(0, 5, 5, 960, 281)
+    table, jobs = model.slice_rule(half, answer.cycle)
+    margins = [task.period - row[0].end for task, row in zip(half, jobs)]
+    assert margins == [54, 33, 44, 9, 5, 28, 22, 60, 10, 81] and list(table).count(0) == 43
+
+
 if __name__ == "__main__":
     for name in SHEETS:
         with open(os.path.join(ROOT, "crates", name, "stdout")) as file:
             assert file.read() == sheet(name), name
-    print("sheets: %d stored sheets are as the model works them" % len(SHEETS))
+    other_numbers()
+    print("sheets: %d stored sheets are as the model works them, and two chambers" % len(SHEETS))
