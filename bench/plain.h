@@ -15,7 +15,7 @@ struct task {
     u32 period, runtime, memory;
 };
 
-// A verdict or a start: refusal number (0: accepted), margin, cycle, job count, for refusal 6 the multiple reached before the
+// A verdict, a quick answer or a start: refusal number (0: accepted), margin, cycle, job count, for refusal 6 the multiple reached before the
 // task and its period, and task.
 struct answer {
     u32 number;
@@ -51,6 +51,7 @@ struct runner {
 // A list from numbers, three a task, as both sides are given it: the first 16 tasks, and how many there are.
 usize plain_list(const u32 *numbers, usize length, struct task *tasks);
 struct answer plain_judge(const struct task *tasks, usize count, u32 supply);
+struct answer plain_quick(const struct task *tasks, usize count, u32 supply);
 struct answer plain_build(const struct task *tasks, usize count, u32 supply, u8 *table, usize length);
 struct answer plain_start(const struct task *tasks, usize count, u32 supply, enum mode mode, u32 clock, u8 *log, usize length,
                           struct state *state);

@@ -11,6 +11,7 @@ import sys
 from collections import Counter
 
 import model
+import sheets
 from model import CLOCK_ROUND, FILLING, LONGEST, NONE_NAMED, TABLE
 from model import Place, State, Task, bare, rounded_up
 
@@ -19,22 +20,23 @@ SEED = 0x0B5E55ED51ACE5
 CLASHES_SEED = 0x0C1A54E55EED
 TICKS_SEED = 0x071C45EED
 DRIVES_SEED = 0x0D21FE5EED5
+QUICK_SEED = 0x0A5CED5EED
 STEPS_WANTED = 202000  # accepted steps in all
 
 # Record tags.
 END, LIST, TABLE_FILL, TABLE_BYTES, TABLE_BYTE, TABLE_LENT, BUILD = range(7)
 LOG_FILL, LOG_LENT, LOG_CHECK, START, STATE, STEP, CONVERSION = range(7, 14)
-ENTRY, REFUSAL, LOGGED, DRIVE = range(14, 18)
+ENTRY, REFUSAL, LOGGED, DRIVE, QUICK = range(14, 19)
 
 RUNTIME, PERIOD = range(2)  # kinds of conversion
 
 # What the end record counts, in its order.
 COUNTED = {
     "list": LIST, "build": BUILD, "start": START, "step": STEP, "conversion": CONVERSION,
-    "entry": ENTRY, "refusal": REFUSAL, "logged": LOGGED, "drive": DRIVE,
+    "entry": ENTRY, "refusal": REFUSAL, "logged": LOGGED, "drive": DRIVE, "quick": QUICK,
 }
 
-MAGIC = b"SLICES04"
+MAGIC = b"SLICES05"
 ANSWER = "BBiIIII"  # the numbers of model.Answer
 SHORT_LOG = 64  # a lent log up to this long is part of every step's checksum
 MOST_TABLE, MOST_LOG, MOST_LIST = 4200, 66000, 272
@@ -104,13 +106,17 @@ class Cases:
         self.counts[what] += 1
         self.counts[what, refusal] += 1
 
-    def list(self, tasks, supply):
+    def put_list(self, tag, tasks, supply):
         assert len(tasks) <= MOST_LIST
-        self.tasks, self.supply = tuple(tasks), supply
-        self.put(LIST, "II", supply, len(tasks))
+        self.put(tag, "II", supply, len(tasks))
         for task in tasks:
             self.out += struct.pack("<III", *task)
+
+    def list(self, tasks, supply):
+        self.tasks, self.supply = tuple(tasks), supply
+        self.put_list(LIST, tasks, supply)
         answer = model.verdict(self.tasks, supply)
+        assert model.quick(self.tasks, supply) == model.without_margin(answer)  # asked here too
         self.out += struct.pack("<" + ANSWER, *answer)
         self.count("list", answer.refusal)
         if answer.reached:
@@ -250,6 +256,16 @@ class Cases:
         self.counts["drive built", built.refusal] += 1
         self.counts["whole drives"] += 0 < self.state.position == self.state.cycle
         return ends
+
+    def quick(self, tasks, supply):
+        """The quick question about a list of its own; the one in hand stays."""
+        answer = model.quick(tasks, supply)
+        assert answer == model.without_margin(model.verdict(tasks, supply))
+        self.put_list(QUICK, tasks, supply)
+        self.out += struct.pack("<BB", *answer)
+        self.count("quick", answer[0])
+        for trait in quick_traits(tasks) if answer[0] in (0, 7) else ():
+            self.counts["quick trait", trait] += 1
 
     def end(self):
         self.put(END, "I" * len(COUNTED), *(self.counts[what] for what in COUNTED))
@@ -941,6 +957,131 @@ def drives(cases, dice):
         drive(cases, dice, dice.below(3), dice.below(100), dice.below(100), [1, 2], dice.below(9))
 
 
+# The quick question
+
+
+# What a wrong quick answer would stumble over. How it is told stands in quick_traits.
+QUICK_TRAITS = (
+    "ranked otherwise than listed", "passes at the last of several points", "not at the deadline",
+    "at one inner point alone", "first at no point", "late by one slice",
+    "late, and others too", "late, and another before it in the list", "late between equals",
+    "late within the load",
+)
+
+
+def common_multiple(periods):
+    """The model's looks for it, which is too slow for the lists of a search."""
+    multiple = 1
+    for period in periods:
+        multiple = multiple // model.gcd(multiple, period) * period
+    return multiple
+
+
+def quick_traits(tasks):
+    """Which of them a list that keeps all bounds has."""
+    order = model.ranking(tasks)
+    points = [model.points_to_try(tasks, i) for i in range(len(tasks))]
+    passing = [model.passing_points(tasks, i, points[i]) for i in range(len(tasks))]
+    late = [i for i in order if not passing[i]]
+    traits = set()
+    if order != sorted(order):
+        traits.add("ranked otherwise than listed")
+    for i, task in enumerate(tasks):
+        if passing[i] and len(points[i]) > 2 and passing[i] == points[i][-1:]:
+            traits.add("passes at the last of several points")
+        if passing[i] and task.period not in passing[i]:
+            traits.add("not at the deadline")
+            if len(points[i]) > 2 and len(passing[i]) == 1:
+                traits.add("at one inner point alone")
+        if passing[i] and model.passing_points(tasks, i, range(1, passing[i][0])):
+            traits.add("first at no point")
+    if not late:
+        return traits
+    named = late[0]
+    lighter = list(tasks)
+    lighter[named] = lighter[named]._replace(runtime=lighter[named].runtime - 1)
+    if model.passing_points(lighter, named, points[named]):
+        traits.add("late by one slice")
+    if len(late) > 1:
+        traits.add("late, and others too")
+    if min(late) < named:
+        traits.add("late, and another before it in the list")
+    equals = [i for i in range(len(tasks)) if tasks[i].period == tasks[named].period]
+    if equals[0] < named < equals[-1]:
+        traits.add("late between equals")
+    cycle = common_multiple([task.period for task in tasks])
+    if sum(task.runtime * (cycle // task.period) for task in tasks) <= cycle:
+        traits.add("late within the load")
+    return traits
+
+
+def lists_of_traits(dice, wanted):
+    """Lists until each trait has been met so often; each list has one that was still wanted."""
+    met = Counter()
+    while any(met[trait] < wanted for trait in QUICK_TRAITS):
+        count = dice.between(2, dice.pick([3, 5, 8]))
+        short = [t for t in divisors(dice.pick([60, 72, 84, 90, 120, 210, 420])) if 1 < t < 40]
+        periods = [dice.pick(short) for _ in range(count)]
+        tasks = [Task(t, dice.between(1, rounded_up(2 * t, count + 1)), 0) for t in periods]
+        traits = [trait for trait in quick_traits(tasks) if met[trait] < wanted]
+        met.update(traits)
+        if traits:
+            yield tasks
+
+
+def bench_lists():
+    """The bench's lists, and what two chambers were tried with."""
+    night, calibration = sheets.example("night"), sheets.example("calibration")
+    lists = [night, calibration, sheets.example("two-chambers"), night + calibration]
+    for tasks in lists[:2]:
+        for i, task in enumerate(tasks):
+            more = task._replace(runtime=min(2 * task.runtime, task.period))
+            lists.append(tasks[:i] + (more,) + tasks[i + 1 :])
+    return lists
+
+
+def quick_lists(dice):
+    """Lists of every kind, with their supplies."""
+    for tasks, supply in bound_lists():
+        if len(tasks) <= 18:
+            yield tasks, supply
+    for tasks, _, _ in model.WORKED:  # turned round, so that other numbers are named
+        yield tasks[::-1], 0
+    for count in (17, 18, 32, 272):
+        yield any_periods(dice, 12, count), 0
+    for tasks in bench_lists():
+        memory = sum(task.memory for task in tasks)
+        for supply in (sheets.SUPPLY, memory, memory - 1):
+            yield tasks, supply
+    for _ in range(500):
+        cycle = dice.pick(dice.pick([SMALL, SMALL, SMALL, MIDDLE]))
+        count = dice.between(1, dice.pick([3, 5, 8, 16]))
+        tasks = random_tasks(dice, cycle, count, dice.between(20, 140))
+        yield with_memory(dice, tasks)
+    for _ in range(150):  # any periods: the cycle is often too long
+        most = dice.pick([6, 10, 20, 70, 100, 1000, LONGEST])
+        yield with_memory(dice, any_periods(dice, most, dice.between(1, 5)))
+    for place in list(range(2, 17)) * 4:
+        tasks = clash(dice, place)
+        yield tasks, sum(task.memory for task in tasks) - dice.below(2)
+    for tasks in lists_of_traits(dice, 250):
+        yield tasks, 0
+    for _ in range(300):  # lists that just pass and just fail
+        cycle = dice.pick(dice.pick([SMALL, SMALL, MIDDLE]))
+        tasks = random_tasks(dice, cycle, dice.between(2, 8), dice.between(30, 90))
+        for edge in edge_pair(dice, tasks):
+            yield edge, 0
+    for _ in range(150):  # full load, and one slice more
+        tasks = full_load(dice, dice.pick(dice.pick([SMALL, SMALL, MIDDLE])), dice.between(2, 8))
+        yield tasks, 0
+        i = dice.below(len(tasks))
+        yield tasks[:i] + [tasks[i]._replace(runtime=tasks[i].runtime + 1)] + tasks[i + 1 :], 0
+    for _ in range(40):
+        yield random_tasks(dice, dice.pick(LARGE), dice.between(2, 16), dice.between(60, 120)), 0
+    for tasks, _ in full_size_lists(dice):
+        yield tasks, 16
+
+
 def all_cases():
     dice, cases = Dice(SEED), Cases()
     conversions(cases, dice)
@@ -973,6 +1114,8 @@ def all_cases():
             run_in_modes(cases, dice, answer.cycle, tables)
     readings(cases)
     drives(cases, Dice(DRIVES_SEED))
+    for tasks, supply in quick_lists(Dice(QUICK_SEED)):
+        cases.quick(tasks, supply)
     cases.end()
     assert all_there(cases)
     return cases
@@ -987,17 +1130,19 @@ def all_there(cases):
         ("entry", range(3)), ("refusal", range(7)), ("logged", range(5)),
         ("drive", (0, 3, 4, 5, 6, 7, 12)), ("drive built", (0, 8)),
         ("driven in mode", (TABLE, FILLING, NONE_NAMED)), ("clash at", range(2, 17)),
+        ("quick", range(8)),
     ):
         for refusal in refusals:
             assert cases.counts[what, refusal], (what, refusal)
     assert all(cases.counts["tick cost", some, refusal] for some in (0, 1) for refusal in (0, 17))
     assert cases.counts["whole drives"] >= 100 and cases.counts["clash of several"] >= 30
+    assert all(cases.counts["quick trait", trait] >= 250 for trait in QUICK_TRAITS)
     return cases.counts["list"] >= 2000 and cases.counts["step"] >= 200000
 
 
 def report(cases):
     print("%d bytes" % len(cases.out))
-    for what in ("list", "build", "start", "step", "conversion", "drive"):
+    for what in ("list", "build", "start", "step", "conversion", "drive", "quick"):
         parts = ["%d: %d" % (r, cases.counts[what, r]) for r in range(18) if cases.counts[what, r]]
         print("%s: %d, by refusal (0 accepted) %s" % (what, cases.counts[what], ", ".join(parts)))
     who_parts = ["%d: %d" % (r, cases.counts["who", r]) for r in (0, 9, 10, 11)]
@@ -1017,6 +1162,8 @@ def report(cases):
     places = ["%d: %d" % (n, cases.counts["clash at", n]) for n in range(2, 17)]
     print("clashes by place %s" % ", ".join(places))
     print("clashes after a multiple that is no period: %d" % cases.counts["clash of several"])
+    for trait in QUICK_TRAITS:
+        print("quick questions, %s: %d" % (trait, cases.counts["quick trait", trait]))
 
 
 def main(arguments):

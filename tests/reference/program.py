@@ -1,7 +1,9 @@
-"""The program, the slow way, from the rules paper: bytes in, bytes out.
+"""The programs, the slow way, from the rules paper: bytes in, bytes out.
 
-    python3 tests/reference/program.py < INPUT      prints what the program has to print
-    python3 tests/reference/program.py --check DIR  holds every DIR/NAME.out to what it prints for DIR/NAME.in
+    python3 tests/reference/program.py < INPUT        prints what the program has to print
+    python3 tests/reference/program.py quick < INPUT  prints what the quick one has to print
+    python3 tests/reference/program.py --check DIR    holds every DIR/NAME.out and DIR/NAME.quick to what
+                                                      they print for DIR/NAME.in
 """
 import pathlib
 import re
@@ -14,13 +16,10 @@ FIELD = rb"(0|[1-9][0-9]{0,8})"
 LINE = re.compile(FIELD + b"," + FIELD + b"," + FIELD + rb"\Z")
 
 
-def refusal(number, task, margin):
-    return b"refusal,task,margin\r\n%d,%d,%d\r\n" % (number, task, margin)
-
-
-def answer(data):
+def read(data):
+    """((refusal, line) or None, tasks)."""
     if len(data) > 4096:
-        return refusal(16, 0, 0)
+        return (16, 0), []
     lines = data.split(b"\r\n")
     if lines[-1] == b"":
         lines.pop()
@@ -28,8 +27,19 @@ def answer(data):
     for number, line in enumerate(lines, 1):
         match = LINE.match(line)
         if not match:
-            return refusal(15, number, 0)
+            return (15, number), []
         tasks.append(model.Task(*(int(field) for field in match.groups())))
+    return None, tasks
+
+
+def refusal(number, task, margin):
+    return b"refusal,task,margin\r\n%d,%d,%d\r\n" % (number, task, margin)
+
+
+def answer(data):
+    not_in_form, tasks = read(data)
+    if not_in_form:
+        return refusal(*not_in_form, 0)
     table = bytearray(4096)
     verdict = model.build(tasks, SUPPLY, table)
     if verdict.refusal:
@@ -37,18 +47,29 @@ def answer(data):
     return b"slice,task\r\n" + b"".join(b"%d,%d\r\n" % (t, table[t]) for t in range(verdict.cycle))
 
 
+def quick_answer(data):
+    not_in_form, tasks = read(data)
+    return b"refusal,task\r\n%d,%d\r\n" % (not_in_form or model.quick(tasks, SUPPLY))
+
+
+PROGRAMS = {".out": answer, ".quick": quick_answer}
+
+
 def check(folder):
     wrong = 0
     cases = sorted(pathlib.Path(folder).glob("*.in"))
     for case in cases:
-        if case.with_suffix(".out").read_bytes() != answer(case.read_bytes()):
-            print(f"{case.name}: the stored output is not what the paper asks for")
-            wrong += 1
-    print(f"{len(cases)} cases, {wrong} wrong")
+        for suffix, program in PROGRAMS.items():
+            stored = case.with_suffix(suffix)
+            if not stored.exists() or stored.read_bytes() != program(case.read_bytes()):
+                print(f"{stored.name}: the stored output is not what the paper asks for")
+                wrong += 1
+    print(f"{len(cases)} cases of {len(PROGRAMS)} programs, {wrong} wrong")
     return wrong == 0 and len(cases) > 0
 
 
 if __name__ == "__main__":
     if sys.argv[1:2] == ["--check"]:
         sys.exit(0 if check(sys.argv[2]) else 1)
-    sys.stdout.buffer.write(answer(sys.stdin.buffer.read()))
+    program = PROGRAMS[".quick" if sys.argv[1:] == ["quick"] else ".out"]
+    sys.stdout.buffer.write(program(sys.stdin.buffer.read()))

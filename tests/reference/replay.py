@@ -16,7 +16,7 @@ from generate import checksum, pattern
 NAMES = (
     "end", "list", "table fill", "table bytes", "table byte", "table lent", "build", "log fill",
     "log lent", "log check", "start", "state", "step", "conversion", "entry", "refusal", "logged",
-    "drive",
+    "drive", "quick",
 )
 
 
@@ -54,9 +54,12 @@ class Replay:
         totals = tuple(self.totals[tag] for tag in generate.COUNTED.values())
         self.compare(self.take("I" * len(totals)), totals)
 
+    def take_list(self):
+        supply, count = self.take("II")
+        return supply, tuple(model.Task(*self.take("III")) for _ in range(count))
+
     def read_list(self):
-        self.supply, count = self.take("II")
-        self.tasks = tuple(model.Task(*self.take("III")) for _ in range(count))
+        self.supply, self.tasks = self.take_list()
         self.compare(self.take(generate.ANSWER), tuple(model.verdict(self.tasks, self.supply)))
         return self.supply, self.tasks
 
@@ -158,6 +161,11 @@ class Replay:
         self.compare(self.file.read(len(self.log)), bytes(self.log))
         self.compare(self.take("%dI" % len(ends)), tuple(ends))
         return mode, clock, needs
+
+    def read_quick(self):
+        supply, tasks = self.take_list()
+        self.compare(self.take("BB"), model.quick(tasks, supply))
+        return supply, tasks
 
 
 def show(replay, tag, given, state):

@@ -15,7 +15,7 @@ fn last_agrees(number: u32, found: u32) -> bool {
     count & formed
 }
 
-fn counts_agree(number: u32, counts: [u32; 18]) -> bool {
+fn counts_agree(number: u32, counts: [u32; 19]) -> bool {
     let lists = count_agrees(number, counts[1]);
     let builds = count_agrees(number, counts[6]);
     let starts = count_agrees(number, counts[10]);
@@ -24,8 +24,9 @@ fn counts_agree(number: u32, counts: [u32; 18]) -> bool {
     let entries = count_agrees(number, counts[14]);
     let refusals = count_agrees(number, counts[15]);
     let logged = count_agrees(number, counts[16]);
-    let drives = last_agrees(number, counts[17]);
-    lists & builds & starts & steps & conversions & entries & refusals & logged & drives
+    let drives = count_agrees(number, counts[17]);
+    let asks = last_agrees(number, counts[18]);
+    lists & builds & starts & steps & conversions & entries & refusals & logged & drives & asks
 }
 
 pub(crate) fn end(hand: Hand) -> Hand {
@@ -42,7 +43,7 @@ fn counted(count: u32, what: &[u8]) {
     io::write_all(STDOUT_FILENO, what);
 }
 
-pub(crate) fn summary(counts: [u32; 18]) {
+pub(crate) fn summary(counts: [u32; 19]) {
     counted(counts[1], b" lists, ");
     counted(counts[6], b" builds, ");
     counted(counts[10], b" starts, ");
@@ -51,5 +52,6 @@ pub(crate) fn summary(counts: [u32; 18]) {
     counted(counts[14], b" entries, ");
     counted(counts[15], b" refusals and ");
     counted(counts[16], b" log bytes read, ");
-    counted(counts[17], b" drives: all agree\n");
+    counted(counts[17], b" drives, ");
+    counted(counts[18], b" quick questions: all agree\n");
 }

@@ -1,5 +1,6 @@
 // Records of lists and conversions.
 use crate::Hand;
+use crate::asks;
 use crate::taken;
 use cases::Answer;
 use cases::compared;
@@ -44,7 +45,7 @@ fn bounds_answer(bounds: Bounds, expected: Answer) -> Answer {
     }
 }
 
-// The same list judged by value, lent as a run of records, and held to its bounds alone.
+// The same list judged by value, lent as a run of records, held to its bounds alone, and asked about quickly.
 fn judged(hand: Hand, supply: u32, list: TaskList) -> Hand {
     let expected = taken::take_answer();
     let found = compared::answer_of(verdict::judge(list, supply));
@@ -55,11 +56,12 @@ fn judged(hand: Hand, supply: u32, list: TaskList) -> Hand {
     let kept = bounds_answer(tasks::check_bounds(list, supply), expected);
     let within = told::answer_agrees(hand.number, expected, kept);
     let check_bounds = told::holds(hand.number, b"check_bounds", within);
+    let ask = asks::beside(hand.number, expected, list, supply);
     let mut after = hand;
     after.list = list;
     after.supply = supply;
     after.verdict = found;
-    after.open = judge & judge_list & check_bounds;
+    after.open = judge & judge_list & check_bounds & ask;
     after
 }
 

@@ -2,6 +2,7 @@
 // with it. It says that all agree, with the counts of the calls, or which record does not.
 mod taken; // numbers, lists and states from standard input
 mod parts; // bytes of a table or a log
+mod asks; // records of the quick question
 mod lists; // records of lists and conversions
 mod reads; // records of readings
 mod tables; // records of the table
@@ -28,7 +29,7 @@ struct Hand {
     table_lent: usize,
     log_held: usize,
     log_lent: usize,
-    counts: [u32; 18],
+    counts: [u32; 19],
     number: u32,
     open: bool,
     agreed: bool,
@@ -70,7 +71,7 @@ fn empty() -> Hand {
         table_lent: 0,
         log_held: 0,
         log_lent: 0,
-        counts: [0; 18],
+        counts: [0; 19],
         number: 0,
         open: true,
         agreed: false,
@@ -117,6 +118,7 @@ fn on_rest(hand: Hand, tag: u8) -> Hand {
         14 => reads::entry(hand),
         15 => reads::refusal(hand),
         16 => reads::logged(hand),
+        18 => asks::ask(hand),
         _ => open_if_formed(hand, false),
     }
 }
@@ -131,9 +133,9 @@ fn by_tag(hand: Hand, tag: u8, table: &mut [u8], log: &mut [u8], second: &mut [u
     }
 }
 
-fn counted(counts: [u32; 18], tag: u8) -> [u32; 18] {
+fn counted(counts: [u32; 19], tag: u8) -> [u32; 19] {
     let at = tag as usize;
-    if 18 <= at {
+    if 19 <= at {
         return counts;
     }
     let mut after = counts;

@@ -50,3 +50,10 @@ module _ (T : ℕ) (pos : 0 < T) where
   pub ceil-suc : (t : ℕ) → ceil (suc t) T ≡ suc (t / T)
   unfolding ceil
   ceil-suc t = ap (λ (x : ℕ). x / T) (omega (arith, div-add-mod' t T)) ∙ div-at (suc (t / T)) (t % T) (mod-lt t pos)
+
+  -- It never falls, and it stays the same up to the first multiple of T from slice s on.
+  pub ceil-grows : (s t : ℕ) → s ≤ t → ceil s T ≤ ceil t T
+  ceil-grows s t l = ceil-least s (ceil t T) (omega (arith, ceil-covers t))
+
+  pub ceil-between : (s t : ℕ) → s ≤ t → t ≤ ceil s T * T → ceil t T ≡ ceil s T
+  ceil-between s t l h = omega (arith, ceil-grows s t l, ceil-least t (ceil s T) h)

@@ -3,3 +3,4 @@ pub mod Walking
 pub mod Records
 pub mod Copying
 pub mod Lending
+pub mod Questions

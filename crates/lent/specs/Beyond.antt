@@ -1,8 +1,8 @@
--- Places beyond the task count do not matter: two lists of one count whose tasks are the same give the same bounds, verdict, table and state of a start.
+-- Places beyond the task count do not matter: two lists of one count whose tasks are the same give the same bounds, verdict, quick answer, table and state of a start.
 use mathlib.Core.Path.{_≡_, refl, sym, ap, _∙_}
 use mathlib.Core.Bool.{false, _&&_, _||_}
-use mathlib.Core.List.{List}
-use Prim.Native.Nat.{ℕ, zero, suc, _+_, _-_, _/_, _%_, _≤_, _<_}
+use mathlib.Core.List.{List, [], _∷_}
+use Prim.Native.Nat.{ℕ, zero, suc, _+_, _-_, _*_, _/_, _%_, _≤_, _<_}
 use native.Mathlib.Omega.{arith}
 use lib.Dec.{leb, ltb, eqb}
 use lib.IntN.{pos, subℕ}
@@ -10,11 +10,13 @@ use lib.ListN.{replicate}
 use Rattle.basis.specs.Bytes.{overwrite, overwrite-same}
 use Rattle.basis.specs.Choose.{choose}
 use Rattle.basis.specs.Least.{least}
+use Rattle.basis.specs.Slices.{ceil}
 use Rattle.basis.specs.Sum.{sum-ext}
 use Rattle.basis.specs.Answer.{Answer, refusal, clash, none, _orElse_, firstFound}
-use Rattle.plan.specs.Plan.{Plan, job, age, keyIn, wants, pick, gets, had, entry, table, given, ranksBefore}
+use Rattle.plan.specs.Plan.{Plan, job, age, keyIn, wants, pick, gets, had, entry, table, given, ranksBefore, asks, bound}
 use Rattle.plan.specs.Rank.{first-ext}
 use Rattle.plan.specs.Run.{had-first, had-next}
+use Rattle.plan.specs.Points.{inLevel, isMultiple, isPoint, pointsFrom, points, passesAmong, failsAtPoints, firstWithout}
 use Rattle.tasks.specs.declared.Task.{Task}
 use Rattle.tasks.specs.declared.TaskList.{TaskList}
 use Rattle.tasks.specs.declared.Bounds.{Bounds}
@@ -23,6 +25,7 @@ use Rattle.tasks.specs.List.{taskAt, planOf}
 use Rattle.tasks.specs.Euclid.{lcmOf}
 use Rattle.tasks.specs.Bounds.{multiple, memorySum, jobSum, cycleOf, jobsOf, ofCount, ofNumbers, ofTask, ofMemory, ofCycle, found, answer, boundsOf}
 use Rattle.tasks.specs.Kept.{kept-tells}
+use Rattle.quick.specs.Quick.{tried, quickFrom, quickOf}
 use Rattle.verdict.specs.declared.Late.{Late}
 use Rattle.verdict.specs.declared.Verdict.the-variants.{Accepted, Refused}
 use Rattle.verdict.specs.Lateness.{received, missing, missedAt, lateBy, earlier, lateness}
@@ -55,6 +58,10 @@ module _ (ts us : List Task) (n : ℕ) (same : (i : ℕ) → i < n → taskAt ts
   key-same : (t i : ℕ) → i < n → keyIn P t i ≡ keyIn Q t i
   unfolding keyIn planOf
   key-same t i li = λ j. same i li j .period
+
+  ranks-same : (i k : ℕ) → i < n → k < n → ranksBefore (keyIn P 0) i k ≡ ranksBefore (keyIn Q 0) i k
+  unfolding ranksBefore
+  ranks-same i k li lk = λ j. ltb (key-same 0 i li j) (key-same 0 k lk j) || (eqb (key-same 0 i li j) (key-same 0 k lk j) && ltb i k)
 
   wants-same : (t : ℕ) (h k : ℕ → ℕ) (i : ℕ) → i < n → h i ≡ k i → wants P (P .runtime) t h i ≡ wants Q (Q .runtime) t k i
   unfolding wants age job planOf
@@ -105,16 +112,51 @@ module _ (ts us : List Task) (n : ℕ) (same : (i : ℕ) → i < n → taskAt ts
   margin-same i li = λ j. same i li j .period - least (λ t. leb (same i li j .runtime) (given-same i 0 t j)) (same i li j .period)
 
   tighter-same : (i k : ℕ) → i < n → k < n → tighter P i k ≡ tighter Q i k
-  unfolding tighter ranksBefore
-  tighter-same i k li lk = λ j.
-      ltb (margin-same i li j) (margin-same k lk j)
-      || (eqb (margin-same i li j) (margin-same k lk j) && (ltb (key-same 0 i li j) (key-same 0 k lk j) || (eqb (key-same 0 i li j) (key-same 0 k lk j) && ltb i k)))
+  unfolding tighter
+  tighter-same i k li lk = λ j. ltb (margin-same i li j) (margin-same k lk j) || (eqb (margin-same i li j) (margin-same k lk j) && ranks-same i k li lk j)
 
   tightest-same : 0 < n → tightest P n ≡ tightest Q n
   unfolding planOf
   tightest-same p =
       let best = tightest-law P n p (omega arith) in
       tightest-only Q _ _ (record { is-below = best .is-below; none-tighter = λ k h. sym (tighter-same k (tightest P n) h (best .is-below)) ∙ best .none-tighter k h }) (tightest-law Q n p (omega arith))
+
+  -- ---- the points, and the test there
+  asks-same : (t i : ℕ) → i < n → asks P t i ≡ asks Q t i
+  unfolding asks planOf
+  asks-same t i li = λ j. same i li j .runtime * ceil t (same i li j .period)
+
+  bound-same : (i t : ℕ) → i < n → bound P i t ≡ bound Q i t
+  unfolding bound planOf
+  bound-same i t li = λ j. asks-same t i li j + sum-ext _ _ n (λ k lk x. choose (ranks-same k i lk li x) (asks-same t k lk x) 0) j
+
+  multiples-same : (i t k : ℕ) → i < n → k ≤ n → isMultiple P i t k ≡ isMultiple Q i t k
+  unfolding isMultiple inLevel planOf
+  multiples-same i t zero li h = refl
+  multiples-same i t (suc k) li h = λ j. multiples-same i t k li (omega arith) j || ((eqb k i || ranks-same k i h li j) && eqb (t % same k h j .period) 0)
+
+  points-from-same : (i t k : ℕ) → i < n → pointsFrom P i t k ≡ pointsFrom Q i t k
+  unfolding pointsFrom isPoint planOf
+  points-from-same i t zero li = refl
+  points-from-same i t (suc k) li = λ j.
+      choose (eqb t (same i li j .period) || multiples-same i t n li (omega arith) j) (t ∷ points-from-same i (suc t) k li j) (points-from-same i (suc t) k li j)
+
+  points-same : (i : ℕ) → i < n → points P i ≡ points Q i
+  unfolding points planOf
+  points-same i li = points-from-same i 1 (taskAt ts i .period) li ∙ (λ j. pointsFrom Q i 1 (same i li j .period))
+
+  passes-same : (i : ℕ) → i < n → (at : List ℕ) → passesAmong P i at ≡ passesAmong Q i at
+  unfolding passesAmong
+  passes-same i li [] = refl
+  passes-same i li (t ∷ at) = λ j. leb (bound-same i t li j) t || passes-same i li at j
+
+  fails-same : (i : ℕ) → i < n → failsAtPoints P i ≡ failsAtPoints Q i
+  unfolding failsAtPoints
+  fails-same i li = λ j. choose ((passes-same i li (points P i) ∙ ap (passesAmong Q i) (points-same i li)) j) 0 1
+
+  without-same : firstWithout P ≡ firstWithout Q
+  unfolding firstWithout planOf
+  without-same = first-ext (keyIn P 0) (keyIn Q 0) (failsAtPoints P) (failsAtPoints Q) n (key-same 0) fails-same
 
   -- ---- bounds
   memory-same : (k : ℕ) → k ≤ n → memorySum ts k ≡ memorySum us k
@@ -161,6 +203,15 @@ module _ (ts us : List Task) (n : ℕ) (same : (i : ℕ) → i < n → taskAt ts
   pub verdict-same : (supply : ℕ) → verdictOf l supply ≡ verdictOf m supply
   unfolding verdictOf
   verdict-same supply = from-same supply (boundsOf l supply) refl ∙ ap (verdictFrom m) (bounds-same supply)
+
+  quick-from-same : (b : Bounds) → quickFrom l b ≡ quickFrom m b
+  unfolding quickFrom
+  quick-from-same (Broken number task reached period) = refl
+  quick-from-same (Kept cycle jobs) = ap tried without-same
+
+  pub quick-same : (supply : ℕ) → quickOf l supply ≡ quickOf m supply
+  unfolding quickOf
+  quick-same supply = quick-from-same (boundsOf l supply) ∙ ap (quickFrom m) (bounds-same supply)
 
   pub entries-same : (cycle : ℕ) (old : List ℕ) → overwrite (table P) cycle old ≡ overwrite (table Q) cycle old
   unfolding table

@@ -10,6 +10,7 @@ use Rattle.basis.specs.Choose.{choose}
 use Rattle.plan.specs.Plan.{table}
 use Rattle.tasks.specs.declared.TaskList.{TaskList}
 use Rattle.tasks.specs.List.{noTask, taskAt, planOf}
+use Rattle.quick.specs.Quick.{quickOf}
 use Rattle.verdict.specs.declared.Verdict.{Verdict}
 use Rattle.verdict.specs.declared.Verdict.the-variants.{Accepted, Refused}
 use Rattle.verdict.specs.Verdict.{verdictOf}
@@ -17,7 +18,7 @@ use Rattle.verdict.specs.Table.{fitted, tabled, Built}
 use Rattle.start.specs.declared.Asked.{Asked}
 use Rattle.start.specs.declared.Started.{Started}
 use Rattle.start.specs.Start.{modeOf, startState, noRun, begunOf, begunState, begunLog, Begins}
-use Rattle.lent.specs.Beyond.{verdict-same, entries-same, state-same}
+use Rattle.lent.specs.Beyond.{verdict-same, quick-same, entries-same, state-same}
 use Rattle.lent.specs.Shapes.{filled}
 
 -- As many tasks, and the same ones. Places beyond the count may differ.
@@ -38,6 +39,9 @@ module _ (k l : TaskList) (a : Alike k l) where
 
   pub verdict-alike : (supply : ℕ) → verdictOf k supply ≡ verdictOf l supply
   verdict-alike supply = counted (λ m. verdictOf m supply) (verdict-same (k .tasks) (l .tasks) (l .count) (a .tasks) supply)
+
+  pub quick-alike : (supply : ℕ) → quickOf k supply ≡ quickOf l supply
+  quick-alike supply = counted (λ m. quickOf m supply) (quick-same (k .tasks) (l .tasks) (l .count) (a .tasks) supply)
 
   tabled-alike : (r : Verdict) (old : List ℕ) → tabled k r old ≡ tabled l r old
   unfolding tabled

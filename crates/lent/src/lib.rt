@@ -1,13 +1,16 @@
-// The verdict, table building and start over a task list that is lent as a run of records: thin walks that copy the records
-// into a list for the covered core. What takes a list by value lends its records, so that covered code comes this way too.
+// The verdict, the quick question, table building and start over a task list that is lent as a run of records: thin walks that
+// copy the records into a list for the covered core. What takes a list by value lends its records, so that covered code comes
+// this way too.
 ghost use mathlib.Core.Path.{_≡_};
 ghost use mathlib.Core.List.{[]};
 ghost use Prim.Native.Nat.{_<_, _≤_};
 ghost use Rattle.lent.specs.Shapes.{filled, withTask, Held};
 ghost use Rattle.tasks.specs.List.{listOf};
+ghost use Rattle.quick.specs.Quick.{quickOf};
 ghost use Rattle.verdict.specs.Verdict.{verdictOf};
 ghost use Rattle.verdict.specs.Table.{Built};
 ghost use Rattle.start.specs.Start.{Begins};
+use quick::Quick;
 use start::Asked;
 use start::Started;
 use tasks::Task;
@@ -71,6 +74,13 @@ pub fn judge_lent(tasks: &[Task], supply: u32) -> Verdict
     verdict::judge(copied(tasks), supply)
 }
 
+// The quick question on a lent list.
+pub fn ask_lent(tasks: &[Task], supply: u32) -> Quick
+    ensures { λ r. ⌜ r ≡ quickOf (listOf (now (tasks .entry))) supply ⌝ }
+{
+    quick::ask(copied(tasks), supply)
+}
+
 // Building the table of a lent list.
 pub fn build_lent(tasks: &[Task], supply: u32, table: &mut [u8]) -> Verdict
     ensures { λ r. ⌜ Built (listOf (now (tasks .entry))) supply (now (table .entry)) (now (table .exit)) r ⌝ }
@@ -85,12 +95,20 @@ pub fn start_lent(tasks: &[Task], supply: u32, asked: Asked, clock: u32, log: &m
     start::start(copied(tasks), supply, asked, clock, log)
 }
 
-// The verdict on the first so many of sixteen places, which are lent for it; likewise `build_first` and `start_first` below.
+// The verdict on the first so many of sixteen places, which are lent for it; likewise `ask_first`, `build_first` and
+// `start_first` below.
 fn judge_first(tasks: [Task; 16], count: usize, supply: u32) -> Verdict
     requires { ⌜ count ≤ 16 ⌝ }
     ensures { λ r. ⌜ r ≡ verdictOf (filled tasks count count) supply ⌝ }
 {
     judge_lent(&tasks[..count], supply)
+}
+
+fn ask_first(tasks: [Task; 16], count: usize, supply: u32) -> Quick
+    requires { ⌜ count ≤ 16 ⌝ }
+    ensures { λ r. ⌜ r ≡ quickOf (filled tasks count count) supply ⌝ }
+{
+    ask_lent(&tasks[..count], supply)
 }
 
 fn build_first(tasks: [Task; 16], count: usize, supply: u32, table: &mut [u8]) -> Verdict
@@ -125,6 +143,19 @@ pub fn judge_list(list: TaskList, supply: u32) -> Verdict
         judge_first(tasks, count, supply)
     } else {
         verdict::judge(list, supply)
+    }
+}
+
+// The quick question on a list by value, whose records are lent for it.
+pub fn ask_list(list: TaskList, supply: u32) -> Quick
+    ensures { λ r. ⌜ r ≡ quickOf list supply ⌝ }
+{
+    let tasks = list.tasks;
+    let count = list.count;
+    if count <= 16 {
+        ask_first(tasks, count, supply)
+    } else {
+        quick::ask(list, supply)
     }
 }
 

@@ -1,3 +1,4 @@
--- What the program prints for an input, and that it prints no other.
+-- What the programs print for an input, and that they print no other.
 pub mod Output
+pub mod Quick
 pub mod Determined

@@ -1,1 +1,1 @@
-// What the program prints for an input, and that it prints no other. No code.
+// What the programs print for an input, and that they print no other. No code.

@@ -9,7 +9,7 @@ use lib.Seq.{length-take-le, getD-take, ext-getD}
 use borrow.Author.Tests.{le-ltb, eq-eqb, ne-eqb}
 use Rattle.basis.specs.Choose.{choose, choose-yes, choose-no}
 use Rattle.basis.specs.Bytes.{overwrite, overwrite-length, overwritten-length, overwrite-at}
-use Rattle.basis.specs.Answer.{refusal, none}
+use Rattle.basis.specs.Answer.{refusal}
 use Rattle.plan.specs.Plan.{table}
 use Rattle.tasks.specs.declared.TaskList.{TaskList}
 use Rattle.tasks.specs.List.{planOf}
@@ -18,10 +18,10 @@ use Rattle.verdict.specs.declared.Verdict.the-variants.{Accepted, Refused}
 use Rattle.verdict.specs.Verdict.{verdictOf, verdictAnswer}
 use Rattle.verdict.specs.Table.{fitted, tabled, Built}
 use Rattle.verdict.specs.Answers.{accepted-tells, refused-not-0}
-use Rattle.records.specs.declared.Form.{Form}
 use Rattle.records.specs.declared.Form.the-variants.{Good, Bad}
 use Rattle.records.specs.declared.Parsed.{Parsed}
 use Rattle.records.specs.Grammar.{formAnswer, readOf, Reads}
+use Rattle.records.specs.Reading.{good-is-0, bad-is-15}
 use Rattle.printing.specs.Text.{refusalText, clashText, tableText}
 use Rattle.printing.specs.Written.{Written}
 use Rattle.output.specs.Output.{recordOf, entries, too-long, bad-line, refused, accepted, Answers, noteOf, of-no-list, of-bad-line, of-list, Noted}
@@ -37,11 +37,6 @@ module _ {old new : List ℕ} {r : ℕ} (v : Verdict) (task : ℕ) (margin m : �
   writes-accepted cycle jobs q W = rw (q, ← same) W
 
 -- ---- an input out of form, or too long
--- an input in form is not refused
-good-answer : (p : Parsed) → p .form ≡ Good → readOf p .answer .number ≡ 0
-unfolding readOf formAnswer none refusal
-good-answer p good = ap (λ (f : Form). formAnswer f .number) good
-
 module _ {input old new : List ℕ} {r : ℕ} where
   pub answers-too-long : 4096 < length input → Written (refusalText 16 0 (pos 0)) old new r → Answers input old new r
   unfolding recordOf refusal
@@ -49,8 +44,8 @@ module _ {input old new : List ℕ} {r : ℕ} where
 
   module _ (p : Parsed) (l : length input ≤ 4096) (R : Reads input (readOf p)) where
     pub answers-bad-line : (line : ℕ) → p .form ≡ Bad line → Written (recordOf (formAnswer (p .form))) old new r → Answers input old new r
-    unfolding readOf formAnswer refusal
-    answers-bad-line line b W = record { text = _; prints = bad-line l R (ap (λ (f : Form). formAnswer f .number) b); written = W }
+    unfolding readOf
+    answers-bad-line line b W = record { text = _; prints = bad-line l R (bad-is-15 p line b); written = W }
 
     pub answers-refused : p .form ≡ Good → (v : Verdict) → v ≡ verdictOf (p .list) 65536 → (number task : ℕ) (margin : ℤ) (reached period : ℕ) → v ≡ Refused number task margin reached period
         → Written (recordOf (verdictAnswer v)) old new r → Answers input old new r
@@ -58,7 +53,7 @@ module _ {input old new : List ℕ} {r : ℕ} where
     answers-refused good v e number task margin reached period q W =
         record {
           text = _;
-          prints = refused l R (good-answer p good) (λ z. refused-not-0 (p .list) 65536 number task margin reached period (sym e ∙ q) (sym (ap (λ (x : Verdict). verdictAnswer x .number) (sym e ∙ q)) ∙ z));
+          prints = refused l R (good-is-0 p good) (λ z. refused-not-0 (p .list) 65536 number task margin reached period (sym e ∙ q) (sym (ap (λ (x : Verdict). verdictAnswer x .number) (sym e ∙ q)) ∙ z));
           written = rw e at W;
         }
 
@@ -105,7 +100,7 @@ module _ (l : TaskList) (v : Verdict) (e : v ≡ verdictOf l 65536) (cycle jobs 
       let shown = table-printed lent built room w is-built ∙ ap₂ entries (sym pl) (sym (ap (λ (x : Verdict). verdictAnswer x .cycle) judged)) in (
         record {
           text = _;
-          prints = accepted li R (good-answer p good) (ap (λ (x : Verdict). verdictAnswer x .number) judged);
+          prints = accepted li R (good-is-0 p good) (ap (λ (x : Verdict). verdictAnswer x .number) judged);
           written = subst (λ (t : List ℕ). Written (tableText t) old new r) shown W;
         },
         fits within,
@@ -136,12 +131,11 @@ module _ {input old : List ℕ} where
 
   module _ (p : Parsed) (l : length input ≤ 4096) (R : Reads input (readOf p)) where
     pub notes-bad-line : (line : ℕ) → p .form ≡ Bad line → Noted input old old 0
-    unfolding readOf formAnswer refusal
-    notes-bad-line line b = record { text = []; notes = of-bad-line l R (ap (λ (f : Form). formAnswer f .number) b); written = writes-nothing }
+    notes-bad-line line b = record { text = []; notes = of-bad-line l R (bad-is-15 p line b); written = writes-nothing }
 
     pub notes-list : {new : List ℕ} {r : ℕ} → p .form ≡ Good → (v : Verdict) → v ≡ verdictOf (p .list) 65536 → Written (noteOf (verdictAnswer v)) old new r → Noted input old new r
     unfolding readOf
-    notes-list good v e W = record { text = _; notes = of-list l R (good-answer p good); written = rw e at W }
+    notes-list good v e W = record { text = _; notes = of-list l R (good-is-0 p good); written = rw e at W }
 
 -- What is printed or said lies within the lent bytes.
 pub within-lent : {text old new : List ℕ} {r : ℕ} → Written text old new r → r ≤ length old → r ≤ length new

@@ -11,7 +11,7 @@ use borrow.Author.Tests.{lt-ltb, ltb-true}
 use Rattle.basis.specs.Choose.{choose, bool-cases, le-or-lt, eq-or-ne}
 use Rattle.basis.specs.Sum.{sum-ext, sum-same}
 use Rattle.plan.specs.Plan.{Plan, Monotonic, Demand, release, deadline, job, age, keyIn, ranksBefore, first, gets, entry, given, HadBy, OnTime, OnTimeUpTo, asks, bound, Passes, IsFirst, NoneWants, FirstTask}
-use Rattle.plan.specs.Rank.{rank, rank-tells, not-before-key, first-law}
+use Rattle.plan.specs.Rank.{rank, rank-tells, not-before-key, not-before-place, first-law}
 use Rattle.plan.specs.Work.{part, before, before-le, before-all, before-own, after, rank-only, gets-cases, got-first}
 use Rattle.plan.specs.Run.{job-at, age-at, release-age, lacks, lacks-open, had-after, given-in-none, given-more, given-at}
 use Rattle.plan.specs.Counting.{given-split, given-grows, had-by-later, entries-of-jobs, entries-add-up}
@@ -250,6 +250,15 @@ pub record FirstFailing (P : Plan) (i : ℕ) : Type 0 where
   pub below : i < P .count
   pub fails : Passes P i → ⊥
   pub before-pass : AllBeforePass P i
+
+-- Nobody else fails first.
+pub fails-first-alone : (P : Plan) (i j : ℕ) → FirstFailing P i → FirstFailing P j → i ≡ j
+unfolding AllBeforePass
+fails-first-alone P i j first-i first-j =
+    let a : ranksBefore (keyIn P 0) i j ≡ false = ⊎-elim (λ t. absurd (first-i .fails (first-j .before-pass i (first-i .below) t))) (λ f. f) (bool-cases (ranksBefore (keyIn P 0) i j)) in
+    let b : ranksBefore (keyIn P 0) j i ≡ false = ⊎-elim (λ t. absurd (first-j .fails (first-i .before-pass j (first-j .below) t))) (λ f. f) (bool-cases (ranksBefore (keyIn P 0) j i)) in
+    let same : keyIn P 0 i ≡ keyIn P 0 j = omega (arith, not-before-key (keyIn P 0) i j a, not-before-key (keyIn P 0) j i b) in
+    omega (arith, not-before-place (keyIn P 0) i j a same, not-before-place (keyIn P 0) j i b (sym same))
 
 module _ (P : Plan) (monotonic : Monotonic P) where
   first-on-time : (i : ℕ) → OnTime P (P .runtime) i 0 ↔ (P .runtime i 0 ≤ given P (P .runtime) i 0 (P .due i))

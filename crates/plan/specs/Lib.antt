@@ -11,3 +11,4 @@ pub mod Ahead
 pub mod Domination
 pub mod Busy
 pub mod ExactTest
+pub mod Points

@@ -10,9 +10,9 @@ use lib.Seq.{getD-take}
 use mir.Syntax.{w32, w64}
 use mir.Val.{Fits, SFits}
 use Rattle.basis.specs.Choose.{eq-or-ne}
-use Rattle.printing.specs.Text.{ascii, crlf, refusalHeader, refusalRecord, refusalText, clashHeader, clashText, tableHeader, tableText, pairRecord, recordsTo}
+use Rattle.printing.specs.Text.{ascii, crlf, refusalHeader, refusalRecord, refusalText, clashText, quickText, tableHeader, tableText, pairRecord, recordsTo}
 use Rattle.printing.specs.Written.{Written}
-use Rattle.printing.specs.Lengths.{refusal-length, refusal-fits, clash-length, clash-fits, table-fits, slice-length, records-next, records-length}
+use Rattle.printing.specs.Lengths.{refusal-length, refusal-fits, pair-length, clash-fits, quick-fits, table-fits, slice-length, records-next, records-length}
 use Rattle.printing.specs.Shapes.{Room, Put}
 use Rattle.printing.proofs.Signed.{magnitude-small}
 
@@ -21,9 +21,9 @@ unfolding refusalHeader crlf ascii
 refusal-room number task margin fn ft fm p =
     record { room = omega (arith, p .next, refusal-length number task margin (fn .fits) (ft .fits) (magnitude-small margin fm)) }
 
-pub clash-room : (reached period : ℕ) → Fits w32 reached → Fits w32 period → {old mid : List ℕ} {r : ℕ} → Put clashHeader 0 old mid r → Room (pairRecord reached period) r
-unfolding clashHeader crlf ascii
-clash-room reached period fr fp p = record { room = omega (arith, p .next, clash-length reached period (fr .fits) (fp .fits)) }
+-- Any two numbers below a header of a line.
+pub pair-room : (header : List ℕ) (a b : ℕ) → length header ≤ 80 → a < 2 ^ 64 → b < 2 ^ 64 → {old mid : List ℕ} {r : ℕ} → Put header 0 old mid r → Room (pairRecord a b) r
+pair-room header a b lh la lb p = record { room = omega (arith, p .next, pair-length 19 19 a b (omega arith) (omega arith)) }
 
 module _ (table : List ℕ) where
   -- The records up to a slice are no longer than those up to a later one.
@@ -50,6 +50,9 @@ refusal-room-enough number task margin fn ft fm W = omega (arith, W .whole, refu
 
 pub clash-room-enough : (reached period : ℕ) → Fits w32 reached → Fits w32 period → {old new : List ℕ} {r : ℕ} → Written (clashText reached period) old new r → r ≤ 39
 clash-room-enough reached period fr fp W = omega (arith, W .whole, clash-fits reached period (fr .fits) (fp .fits))
+
+pub quick-room-enough : (number task : ℕ) → Fits w32 number → Fits w64 task → {old new : List ℕ} {r : ℕ} → Written (quickText number task) old new r → r ≤ 47
+quick-room-enough number task fn ft W = omega (arith, W .whole, quick-fits number task (fn .fits) (ft .fits))
 
 pub table-room-enough : (table : List ℕ) (cycle : ℕ) → ((i : ℕ) → getD table i 0 < 256) → {old new : List ℕ} {r : ℕ} → Written (tableText (take cycle table)) old new r → cycle ≤ 4096 → r ≤ 40972
 table-room-enough table cycle bytes W l =

@@ -5,7 +5,7 @@ use Prim.Native.Nat.{ℕ, zero, suc, _+_, _*_, _^_, _≤_, _<_}
 use native.Mathlib.Omega.{arith}
 use lib.IntN.{ℤ, pos, negsuc, natAbs}
 use lib.ListN.{length, getD, length-append}
-use Rattle.printing.specs.Text.{ascii, decimal, sign, signedDecimal, field, crlf, refusalHeader, refusalRecord, refusalText, clashHeader, clashText, tableHeader, pairRecord, recordsTo, tableText}
+use Rattle.printing.specs.Text.{ascii, decimal, sign, signedDecimal, field, crlf, refusalHeader, refusalRecord, refusalText, clashHeader, clashText, quickHeader, quickText, tableHeader, pairRecord, recordsTo, tableText}
 use Rattle.printing.specs.Decimal.{decimal-length}
 
 field-length : (k n : ℕ) → n < 10 ^ suc k → length (field n) ≤ suc k + 1
@@ -44,7 +44,7 @@ refusal-fits number task margin ln lt lm =
 
 -- ---- a record of two numbers
 -- Numbers of so many digits, a comma and CRLF.
-pair-length : (k j a b : ℕ) → a < 10 ^ suc k → b < 10 ^ suc j → length (pairRecord a b) ≤ suc k + suc j + 3
+pub pair-length : (k j a b : ℕ) → a < 10 ^ suc k → b < 10 ^ suc j → length (pairRecord a b) ≤ suc k + suc j + 3
 unfolding pairRecord crlf ascii
 pair-length k j a b la lb =
     omega (
@@ -55,13 +55,15 @@ pair-length k j a b la lb =
       decimal-length j b lb,
     )
 
--- Two numbers of 10 digits; with the header, 39 bytes are room for every clash.
-pub clash-length : (reached period : ℕ) → reached < 2 ^ 32 → period < 2 ^ 32 → length (pairRecord reached period) ≤ 23
-clash-length reached period lr lp = omega (arith, pair-length 9 9 reached period (omega arith) (omega arith))
-
+-- Two numbers of 10 digits, and the header: 39 bytes are room for every clash.
 pub clash-fits : (reached period : ℕ) → reached < 2 ^ 32 → period < 2 ^ 32 → length (clashText reached period) ≤ 39
 unfolding clashText clashHeader crlf ascii
-clash-fits reached period lr lp = omega (arith, length-append clashHeader (pairRecord reached period), clash-length reached period lr lp)
+clash-fits reached period lr lp = omega (arith, length-append clashHeader (pairRecord reached period), pair-length 9 9 reached period (omega arith) (omega arith))
+
+-- A number of 10 digits, a task of 20, and the header: 47 bytes are room for every quick answer.
+pub quick-fits : (number task : ℕ) → number < 2 ^ 32 → task < 2 ^ 64 → length (quickText number task) ≤ 47
+unfolding quickText quickHeader crlf ascii
+quick-fits number task ln lt = omega (arith, length-append quickHeader (pairRecord number task), pair-length 9 19 number task (omega arith) (omega arith))
 
 -- ---- a table
 -- A slice number of so many digits, and an entry of 3.

@@ -66,6 +66,14 @@ clashHeader = ascii "reached,period" ++ crlf
 unfoldable pub clashText : ℕ → ℕ → List ℕ
 clashText reached period = clashHeader ++ pairRecord reached period
 
+-- ---- the quick answer
+unfoldable pub quickHeader : List ℕ
+quickHeader = ascii "refusal,task" ++ crlf
+
+-- The header and one record: the refusal's number, 0 for none, and the task that it names.
+unfoldable pub quickText : ℕ → ℕ → List ℕ
+quickText number task = quickHeader ++ pairRecord number task
+
 -- ---- a table
 unfoldable pub tableHeader : List ℕ
 tableHeader = ascii "slice,task" ++ crlf

@@ -1,9 +1,9 @@
-// Records by RFC 4180 into a lent buffer: a refusal, why two periods clash, and a table.
+// Records by RFC 4180 into a lent buffer: a refusal, why two periods clash, the quick answer, and a table.
 ghost use mathlib.Core.List.{[], _∷_};
 ghost use lib.ListN.{length, take};
 ghost use mathlib.Core.Path.{_≡_};
 ghost use Prim.Native.Nat.{_≤_, min};
-ghost use Rattle.printing.specs.Text.{decimal, field, signedDecimal, refusalRecord, refusalText, pairRecord, clashText, recordsTo, tableText};
+ghost use Rattle.printing.specs.Text.{decimal, field, signedDecimal, refusalRecord, refusalText, pairRecord, clashText, quickText, recordsTo, tableText};
 ghost use Rattle.printing.specs.Written.{Written};
 ghost use Rattle.printing.specs.Shapes.{Room, Put};
 
@@ -124,6 +124,15 @@ pub fn write_clash(reached: u32, period: u32, out: &mut [u8]) -> usize
 {
     let next = put_text(b"reached,period\r\n", out, 0);
     put_pair(reached as u64, period as u64, out, next)
+}
+
+// The quick answer, as much of it as there is room for: the header, and one record. Answers the length of the whole text.
+pub fn write_quick(number: u32, task: usize, out: &mut [u8]) -> usize
+    ensures { λ r. ⌜ Written (quickText number task) (now (out .entry)) (now (out .exit)) r ⌝ }
+    ensures { λ r. ⌜ r ≤ 47 ⌝ }
+{
+    let next = put_text(b"refusal,task\r\n", out, 0);
+    put_pair(number as u64, task as u64, out, next)
 }
 
 // A table, as much of it as there is room for: the header, and a record for each slice of the cycle, as far as the table

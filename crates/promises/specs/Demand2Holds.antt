@@ -10,7 +10,7 @@ use lib.Dec.{eqb, leb}
 use lib.IntN.{ℤ, negsuc, subℕ}
 use lib.ListN.{length, getD}
 use borrow.Author.Tests.{eq-eqb, lt-ltb, le-ltb, leb-true, leb-false}
-use Rattle.basis.specs.Choose.{choose-yes, choose-no, bool-cases, le-or-lt}
+use Rattle.basis.specs.Choose.{choose-yes, choose-no, le-or-lt}
 use Rattle.basis.specs.Sum.{sum, sum-ext, sum-same}
 use Rattle.plan.specs.Counting.{entries-in-cycle}
 use Rattle.basis.specs.Least.{least, least-law}
@@ -18,7 +18,7 @@ use Rattle.basis.specs.Bytes.{overwrite, overwrite-length, overwrite-at, overwr
 use Rattle.plan.specs.Plan.{Plan, Monotonic, release, deadline, job, age, keyIn, ranksBefore, gets, given, table, HadBy, OnTime, OnTimeUpTo, IsFirst, NoneWants, FirstTask}
 use Rattle.plan.specs.Run.{had-after}
 use Rattle.plan.specs.Rank.{first-law, not-before-key, not-before-place}
-use Rattle.plan.specs.ExactTest.{AllPass, AllBeforePass, test-exact-up-to, FirstFailing, late-has-first-failing, first-failing-late, first-failing-earliest}
+use Rattle.plan.specs.ExactTest.{AllPass, test-exact-up-to, FirstFailing, late-has-first-failing, first-failing-late, first-failing-earliest}
 use Rattle.tasks.specs.declared.TaskList.{TaskList}
 use Rattle.tasks.specs.declared.Bounds.the-variants.{Kept, Broken}
 use Rattle.tasks.specs.List.{planOf}
@@ -180,15 +180,6 @@ module _ (P : Plan) (monotonic : Monotonic P) (n i short : ℕ) (E : EarliestMis
     margin-is = em ∙ short-is short (given P r f 0 (P .due f)) ∙ ap (subℕ (given P r f 0 (P .due f))) (omega (arith, E .lacks, ap (missing P t) is-first-failing, f-missing));
     fails-first = failing .1;
   }
-
--- Nobody else fails first.
-pub fails-first-alone : (P : Plan) (i j : ℕ) → FirstFailing P i → FirstFailing P j → i ≡ j
-unfolding AllBeforePass
-fails-first-alone P i j first-i first-j =
-    let a : ranksBefore (keyIn P 0) i j ≡ false = ⊎-elim (λ t. absurd (first-i .fails (first-j .before-pass i (first-i .below) t))) (λ f. f) (bool-cases (ranksBefore (keyIn P 0) i j)) in
-    let b : ranksBefore (keyIn P 0) j i ≡ false = ⊎-elim (λ t. absurd (first-j .fails (first-i .before-pass j (first-j .below) t))) (λ f. f) (bool-cases (ranksBefore (keyIn P 0) j i)) in
-    let same : keyIn P 0 i ≡ keyIn P 0 j = omega (arith, not-before-key (keyIn P 0) i j a, not-before-key (keyIn P 0) j i b) in
-    omega (arith, not-before-place (keyIn P 0) i j a same, not-before-place (keyIn P 0) j i b (sym same))
 
 -- ---- the promise on lateness
 -- Refusal 7 names the first task that misses, and by how many slices. (That the margin is below zero there and nowhere else is

@@ -3,17 +3,23 @@
 use mathlib.Core.Path.{_≡_, sym, ap, ap₂, _∙_}
 use mathlib.Core.List.{List}
 use mathlib.Core.Bool.{Bool}
-use Prim.Native.Nat.{ℕ}
+use mathlib.Core.Logic.{⊎-elim}
+use Prim.Native.Nat.{ℕ, _≤_, _<_}
 use lib.Dec.{ltb}
 use lib.IntN.{ℤ}
 use lib.ListN.{take}
-use Rattle.basis.specs.Choose.{choose}
-use Rattle.plan.specs.Plan.{Demand}
+use Rattle.basis.specs.Bytes.{overwrite-same}
+use Rattle.basis.specs.Choose.{choose, le-or-lt}
+use Rattle.plan.specs.Plan.{Demand, keyIn}
+use Rattle.plan.specs.Order.{one-order}
 use Rattle.tasks.specs.declared.TaskList.{TaskList}
 use Rattle.tasks.specs.declared.Bounds.{Bounds}
-use Rattle.tasks.specs.List.{listOf}
+use Rattle.tasks.specs.List.{listOf, planOf}
 use Rattle.tasks.specs.Euclid.{lcmOf}
 use Rattle.tasks.specs.Bounds.{boundsOf}
+use Rattle.ranking.specs.Ranks.{Ranks}
+use Rattle.quick.specs.declared.Quick.{Quick}
+use Rattle.quick.specs.Quick.{quickOf}
 use Rattle.verdict.specs.declared.Verdict.{Verdict}
 use Rattle.verdict.specs.Verdict.{verdictOf}
 use Rattle.verdict.specs.Table.{tabled, Built}
@@ -37,7 +43,7 @@ use Rattle.units.specs.Conversion.{runtimeSlices, periodSlices}
 use Rattle.records.specs.declared.Parsed.{Parsed}
 use Rattle.records.specs.Grammar.{readOf, Reads}
 use Rattle.records.specs.Reading.{reads-one}
-use Rattle.printing.specs.Text.{refusalText, tableText}
+use Rattle.printing.specs.Text.{refusalText, clashText, quickText, tableText}
 use Rattle.printing.specs.Written.{Written, written-one}
 use Rattle.tasks.specs.declared.Task.{Task}
 use Rattle.bench.specs.declared.Driven.{Driven}
@@ -54,6 +60,35 @@ lcm a b r r′ e e′ = one-answer e e′
 
 pub check-bounds : (l : TaskList) (supply : ℕ) (r r′ : Bounds) → r ≡ boundsOf l supply → r′ ≡ boundsOf l supply → r ≡ r′
 check-bounds l supply r r′ e e′ = one-answer e e′
+
+-- ranking: by_rank, with the four arrays
+pub by-rank : (l : TaskList) (order₀ periods₀ dues₀ runtimes₀ order order′ periods periods′ dues dues′ runtimes runtimes′ : List ℕ)
+    → Ranks l order₀ periods₀ dues₀ runtimes₀ order periods dues runtimes → Ranks l order₀ periods₀ dues₀ runtimes₀ order′ periods′ dues′ runtimes′
+    → (order ≡ order′) × (periods ≡ periods′) × (dues ≡ dues′) × (runtimes ≡ runtimes′)
+unfolding planOf
+by-rank l order₀ periods₀ dues₀ runtimes₀ order order′ periods periods′ dues dues′ runtimes runtimes′ R R′ =
+    ⊎-elim
+    (λ (few : l .count ≤ 16).
+    let one = R .few few in
+    let other = R′ .few few in
+    let same = one-order (keyIn (planOf l) 0) (l .count) (one .sorted) (other .sorted) (one .ranked 0) (other .ranked 0) in (
+      one .order-is ∙ overwrite-same _ _ order₀ (l .count) (λ k lk. same k lk) ∙ sym (other .order-is),
+      one .periods-are ∙ overwrite-same _ _ periods₀ (l .count) (λ k lk. ap (planOf l .period) (same k lk)) ∙ sym (other .periods-are),
+      one .dues-are ∙ overwrite-same _ _ dues₀ (l .count) (λ k lk. ap (planOf l .due) (same k lk)) ∙ sym (other .dues-are),
+      one .runtimes-are ∙ overwrite-same _ _ runtimes₀ (l .count) (λ k lk. ap (λ (i : ℕ). planOf l .runtime i 0) (same k lk)) ∙ sym (other .runtimes-are),
+    ))
+    (λ (many : 16 < l .count).
+    let one = R .too-many many in
+    let other = R′ .too-many many in
+    (one-answer (one .0) (other .0), one-answer (one .1) (other .1), one-answer (one .2) (other .2), one-answer (one .3) (other .3)))
+    (le-or-lt (l .count) 16)
+
+-- quick: ask; lent: ask_list; and over the lent list, ask_lent
+pub ask : (l : TaskList) (supply : ℕ) (r r′ : Quick) → r ≡ quickOf l supply → r′ ≡ quickOf l supply → r ≡ r′
+ask l supply r r′ e e′ = one-answer e e′
+
+pub ask-lent : (ts : List Task) (supply : ℕ) (r r′ : Quick) → r ≡ quickOf (listOf ts) supply → r′ ≡ quickOf (listOf ts) supply → r ≡ r′
+ask-lent ts supply r r′ e e′ = one-answer e e′
 
 -- verdict: judge; lent: judge_list
 pub judge : (l : TaskList) (supply : ℕ) (r r′ : Verdict) → r ≡ verdictOf l supply → r′ ≡ verdictOf l supply → r ≡ r′
@@ -121,10 +156,16 @@ period-slices micros slice r r′ e e′ = one-answer e e′
 pub read-list : (input : List ℕ) (r r′ : Parsed) → Reads input (readOf r) → Reads input (readOf r′) → r ≡ r′
 read-list input r r′ R R′ = reads-one r r′ R R′
 
--- printing: write_refusal, write_table, with the lent bytes
+-- printing: write_refusal, write_clash, write_quick, write_table, with the lent bytes
 pub write-refusal : (number task : ℕ) (margin : ℤ) (old new new′ : List ℕ) (r r′ : ℕ)
     → Written (refusalText number task margin) old new r → Written (refusalText number task margin) old new′ r′ → (r ≡ r′) × (new ≡ new′)
 write-refusal number task margin old new new′ r r′ W W′ = written-one W W′
+
+pub write-clash : (reached period : ℕ) (old new new′ : List ℕ) (r r′ : ℕ) → Written (clashText reached period) old new r → Written (clashText reached period) old new′ r′ → (r ≡ r′) × (new ≡ new′)
+write-clash reached period old new new′ r r′ W W′ = written-one W W′
+
+pub write-quick : (number task : ℕ) (old new new′ : List ℕ) (r r′ : ℕ) → Written (quickText number task) old new r → Written (quickText number task) old new′ r′ → (r ≡ r′) × (new ≡ new′)
+write-quick number task old new new′ r r′ W W′ = written-one W W′
 
 pub write-table : (table : List ℕ) (cycle : ℕ) (old new new′ : List ℕ) (r r′ : ℕ)
     → Written (tableText (take cycle table)) old new r → Written (tableText (take cycle table)) old new′ r′ → (r ≡ r′) × (new ≡ new′)

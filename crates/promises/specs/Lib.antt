@@ -5,6 +5,8 @@ pub mod Driven
 pub mod Earned
 pub mod Demand2
 pub mod Demand2Holds
+pub mod Quick
+pub mod QuickHolds
 pub mod Refusals
 pub mod RefusalsHold
 pub mod Program

@@ -14,7 +14,7 @@ use Rattle.basis.specs.Choose.{choose, both-true, choose-yes, choose-no, choose
 use Rattle.basis.specs.Answer.{Answer, alike, refusal, clash, none, _orElse_, firstFound, none-number, else-choose, found-none, none-found}
 use Rattle.basis.specs.Rules.{rule, saying, Breaks, no-more, _then_, _andThen_, Refused, GoesBy, goes-on, goes-then, goes-as, Refuses, plain-refuses, breaks-saying, breaks-naming, saying-told, goes-by-rule, goes-unless, first-goes}
 use Rattle.plan.specs.Plan.{given}
-use Rattle.plan.specs.ExactTest.{AllPass}
+use Rattle.plan.specs.ExactTest.{AllPass, fails-first-alone}
 use Rattle.tasks.specs.declared.Task.{Task}
 use Rattle.tasks.specs.declared.TaskList.{TaskList}
 use Rattle.tasks.specs.List.{taskAt, planOf}
@@ -40,7 +40,7 @@ use Rattle.units.specs.declared.Slices.the-variants.{Count, Refused as NoSlices
 use Rattle.units.specs.Conversion.{runtimeSlices, periodSlices, slicesAnswer}
 use Rattle.units.specs.Laws.{period-accepted, period-refused}
 use Rattle.promises.specs.Demand2.{FirstLate}
-use Rattle.promises.specs.Demand2Holds.{not-by-bounds, accepted-exactly, late-named, fails-first-alone}
+use Rattle.promises.specs.Demand2Holds.{not-by-bounds, accepted-exactly, late-named}
 use Rattle.promises.specs.Refusals.{no-tasks, more-than-16, FirstWith, PeriodOutside, RuntimeOutside, period-outside, runtime-outside, FirstAbove, memory-exceeds, cycle-above, deadline-missed, table-short, log-short-for, boundsRules, listRules, buildRules, startRules, Follows, one-more, wraps, not-sound, run-over, no-entry, log-short, clock-wrong, report-wrong, whoRules, stepRules, no-share, not-whole}
 
 -- ---- refusals 1 to 6

@@ -192,3 +192,13 @@ parsed-reads input = let r = judged-reads (lines-of input) (judged (linesOf inpu
 -- The reader accepts exactly the grammar.
 pub reads-exactly : (input : List ℕ) (r : Parsed) → Reads input (readOf r) ↔ (r ≡ parsedOf input)
 reads-exactly input r = (λ R. read-tells r (parsedOf input) (reads-only R), λ e. subst (λ (x : Parsed). Reads input (readOf x)) (sym e) (parsed-reads input))
+
+-- ---- by the number of the answer
+module _ (r : Parsed) where
+  pub good-is-0 : r .form ≡ Good → readOf r .answer .number ≡ 0
+  unfolding readOf formAnswer none refusal
+  good-is-0 e = ap (λ (f : Form). formAnswer f .number) e
+
+  pub bad-is-15 : (line : ℕ) → r .form ≡ Bad line → readOf r .answer .number ≡ 15
+  unfolding readOf formAnswer refusal
+  bad-is-15 line e = ap (λ (f : Form). formAnswer f .number) e

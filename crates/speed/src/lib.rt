@@ -2,6 +2,7 @@
 // and promises nothing of its own; what is called behind it has the contracts.
 ghost use Prim.Native.Nat.{_+_, _≤_, _<_};
 ghost use lib.ListN.{length};
+use quick::Quick;
 use run::Closed;
 use run::Runner;
 use start::Asked;
@@ -11,7 +12,7 @@ use tasks::Task;
 use tasks::TaskList;
 use verdict::Verdict;
 
-// A verdict or a start in numbers: refusal number (0: accepted), margin, cycle, job count, clash and task.
+// A verdict, a quick answer or a start in numbers: refusal number (0: accepted), margin, cycle, job count, clash and task.
 #[repr(C)]
 pub struct Answer {
     pub number: u32,
@@ -62,6 +63,19 @@ fn list_of(numbers: &[u32]) -> TaskList {
     list
 }
 
+// A refusal that says nothing but its task; number 0: none.
+fn of_numbers(number: u32, task: usize) -> Answer {
+    Answer {
+        number,
+        margin: 0,
+        cycle: 0,
+        jobs: 0,
+        reached: 0,
+        period: 0,
+        task,
+    }
+}
+
 fn of_verdict(verdict: Verdict) -> Answer {
     match verdict {
         Verdict::Accepted {
@@ -110,6 +124,15 @@ fn begin(numbers: &[u32], supply: u32, mode: u32, clock: u32, log: &mut [u8]) ->
 #[no_mangle]
 pub extern "C" fn speed_judge(numbers: &[u32], supply: u32) -> Answer {
     of_verdict(verdict::judge(list_of(numbers), supply))
+}
+
+// The quick question.
+#[no_mangle]
+pub extern "C" fn speed_quick(numbers: &[u32], supply: u32) -> Answer {
+    match quick::ask(list_of(numbers), supply) {
+        Quick::Accepted => of_numbers(0, 0),
+        Quick::Refused { number, task } => of_numbers(number, task),
+    }
 }
 
 // Table building.

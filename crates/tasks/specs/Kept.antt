@@ -295,3 +295,8 @@ broken-tells l supply number task reached period e =
 
 pub broken-number : (l : TaskList) (supply number task reached period : ℕ) → boundsOf l supply ≡ Broken number task reached period → number ≤ 6
 broken-number l supply number task reached period e = omega (arith, broken-tells l supply number task reached period e .number-is, found-most l supply .to-most)
+
+-- The list keeps all bounds, of memory with some supply.
+pub record Bounded (l : TaskList) : Type 0 where
+  pub supply : ℕ
+  pub keeps : KeepsBounds l supply

@@ -4,17 +4,17 @@ use mathlib.Core.List.{List}
 use mathlib.Core.Logic.{⊎-elim}
 use Prim.Native.Nat.{ℕ, suc, _≤_, _<_}
 use native.Mathlib.Omega.{arith}
-use lib.ListN.{length}
+use lib.ListN.{length, replicate}
 use Rattle.basis.specs.Bytes.{at, overwrite, overwrite-same}
 use Rattle.basis.specs.Choose.{choose-yes, choose-no, eq-or-ne}
 use Rattle.plan.specs.Plan.{table}
 use Rattle.tasks.specs.declared.TaskList.{TaskList}
 use Rattle.tasks.specs.List.{planOf}
 use Rattle.tasks.specs.Bounds.{cycleOf, boundsOf}
-use Rattle.tasks.specs.Kept.{kept-tells}
+use Rattle.tasks.specs.Kept.{Bounded, kept-tells}
+use Rattle.ranking.specs.Ranks.{Ranks, ranked-shows}
 use Rattle.verdict.specs.Lateness.{lateness}
-use Rattle.verdict.specs.Shapes.{Bounded}
-use Rattle.verdict.specs.Walk.{Shows, Shown}
+use Rattle.verdict.specs.Walk.{Shown}
 use lib.IntN.{ℤ, pos, subℕ}
 use borrow.Author.Tests.{eq-eqb, ne-eqb, lt-ltb, le-ltb}
 use Rattle.tasks.specs.declared.Bounds.the-variants.{Kept, Broken}
@@ -25,8 +25,8 @@ use Rattle.verdict.specs.Verdict.{judged, verdictFrom, verdictOf}
 use Rattle.verdict.specs.Table.{fitted, tabled, Built}
 use Rattle.verdict.specs.Settling.{Concluded, Settled}
 
-abbrev pub shown : (l : TaskList) (cycle : ℕ) → Bounded l → cycle ≡ cycleOf l → (order periods dues runtimes : List ℕ) → Shows (planOf l) order periods dues runtimes → Shown (l .count) cycle order periods dues runtimes
-shown l cycle bounded cycle-is order periods dues runtimes W = record { list = l; bounded = bounded; count-is = refl; cycle-is = cycle-is; shows = W }
+abbrev pub shown : (l : TaskList) (cycle : ℕ) → Bounded l → cycle ≡ cycleOf l → (order periods dues runtimes : List ℕ) → Ranks l (replicate 16 0) (replicate 16 0) (replicate 16 0) (replicate 16 0) order periods dues runtimes → Shown (l .count) cycle order periods dues runtimes
+shown l cycle bounded cycle-is order periods dues runtimes R = record { list = l; bounded = bounded; count-is = refl; cycle-is = cycle-is; shows = ranked-shows l (bounded .keeps .few) order periods dues runtimes R }
 
 -- ---- the table of a list that keeps all bounds
 module _ (l : TaskList) (cycle jobs : ℕ) (r : Verdict) (is-judged : r ≡ judged (planOf l) cycle jobs (lateness (planOf l) cycle)) where

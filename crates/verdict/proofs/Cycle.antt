@@ -16,14 +16,15 @@ use Rattle.plan.specs.Events.{nextEvent, event-open, event-later, event-by-rele
 use Rattle.tasks.specs.declared.TaskList.{TaskList}
 use Rattle.tasks.specs.List.{planOf}
 use Rattle.tasks.specs.Bounds.{cycleOf}
-use Rattle.tasks.specs.Kept.{plan-monotonic, period-divides-cycle, period-within-cycle}
+use Rattle.tasks.specs.Kept.{Bounded, plan-monotonic, period-divides-cycle, period-within-cycle}
+use Rattle.ranking.specs.Ranks.{Shows}
 use Rattle.verdict.specs.declared.Late.{Late}
 use Rattle.verdict.specs.declared.walk.Turned.{Turned}
 use Rattle.verdict.specs.Lateness.{lateness}
 use Rattle.verdict.specs.Deadlines.{late-stays, nothing-late, late-tells, missed-lacks, missing-is}
 use Rattle.verdict.specs.Ends.{endBy, end-none, end-is-first, end-within}
-use Rattle.verdict.specs.Shapes.{Bounded, HandedOut, Fits, Tabled, missingOf, eventThen, noneLate, OneLate, AllTurned, TurnedAll, marginAt, TightestAt}
-use Rattle.verdict.specs.Walk.{Shows, Shown, Holds, Walked, entry-turn, none-late-then, one-late-then, holds-next}
+use Rattle.verdict.specs.Shapes.{HandedOut, Fits, Tabled, missingOf, eventThen, noneLate, OneLate, AllTurned, TurnedAll, marginAt, TightestAt}
+use Rattle.verdict.specs.Walk.{Shown, Holds, Walked, entry-turn, none-late-then, one-late-then, holds-next}
 use native.Mathlib.Numerals.{add-one}
 use lib.IntN.{ℤ, pos, subℕ}
 use borrow.Author.Tests.{eq-eqb, ne-eqb}

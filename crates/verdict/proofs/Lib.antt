@@ -1,5 +1,5 @@
 -- Laws that the proofs of several functions cite.
-pub mod Ranking
+pub mod Tightest
 pub mod Handing
 pub mod Turning
 pub mod Cycle

@@ -8,6 +8,5 @@ pub mod Ends
 pub mod Tightest
 pub mod Answers
 pub mod Shapes
-pub mod Insertion
 pub mod Walk
 pub mod Settling

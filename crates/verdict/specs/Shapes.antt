@@ -12,22 +12,8 @@ use Rattle.basis.specs.Choose.{choose}
 use Rattle.basis.specs.Sum.{sum}
 use Rattle.plan.specs.Order.{FirstPlace}
 use Rattle.plan.specs.Events.{left, GoesTo}
-use Rattle.tasks.specs.declared.TaskList.{TaskList}
-use Rattle.tasks.specs.Kept.{KeepsBounds}
 use Rattle.verdict.specs.declared.Late.{Late}
 use Rattle.verdict.specs.declared.walk.Turned.{Turned}
-
--- The list keeps all bounds, of memory with some supply.
-pub record Bounded (l : TaskList) : Type 0 where
-  pub supply : ℕ
-  pub keeps : KeepsBounds l supply
-
--- the arrays have sixteen places
-pub record Room (order periods dues runtimes : List ℕ) : Type 0 where
-  pub order-room : 16 ≤ length order
-  pub periods-room : 16 ≤ length periods
-  pub dues-room : 16 ≤ length dues
-  pub runtimes-room : 16 ≤ length runtimes
 
 -- ---- entries
 -- Bytes from a to b, b not included, hold one entry, and the others are as they were.

@@ -14,27 +14,20 @@ use Rattle.basis.specs.Choose.{choose, choose-yes, choose-no, choose-either, le
 use Rattle.basis.specs.Sum.{sum}
 use Rattle.plan.specs.Plan.{Plan, Sound, release, deadline, job, age, keyIn, gets, table, OnTimeUpTo}
 use Rattle.plan.specs.Run.{release-age, lacks, lacks-open, lacks-shut}
-use Rattle.plan.specs.Order.{Ranked, ranked-first, one-place, FirstIn}
+use Rattle.plan.specs.Order.{ranked-first, one-place, FirstIn}
 use Rattle.plan.specs.Events.{nextEvent, event-open, event-by-release, deadline-not-before, event-inside, ComesTo, before-event, at-deadline, at-release, left, GoesTo, goes-to-one, entry-goes, after-left}
 use Rattle.tasks.specs.declared.TaskList.{TaskList}
 use Rattle.tasks.specs.List.{planOf}
 use Rattle.tasks.specs.Bounds.{cycleOf}
+use Rattle.tasks.specs.Kept.{Bounded}
+use Rattle.ranking.specs.Ranks.{Shows}
 use Rattle.verdict.specs.declared.Late.{Late}
 use Rattle.verdict.specs.Lateness.{received, missing, missedAt, lateBy, lateness}
 use Rattle.verdict.specs.Deadlines.{nothing-late, earlier-second}
 use Rattle.verdict.specs.Ends.{endBy, end-shut, end-turn}
-use Rattle.verdict.specs.Shapes.{Bounded, until, endAfter, missingOf, turned, eventThen, releaseThen, lackThen, noneLate, OneLate}
+use Rattle.verdict.specs.Shapes.{until, endAfter, missingOf, turned, eventThen, releaseThen, lackThen, noneLate, OneLate}
 
 -- ---- the arrays
--- They show the plan: place k of each belongs to the k-th task by rank.
-pub record Shows (P : Plan) (order periods dues runtimes : List ℕ) : Type 0 where
-  pub ranked : (t : ℕ) → Ranked (keyIn P t) (P .count) order
-  pub period-is : (k : ℕ) → k < P .count → at periods k ≡ P .period (at order k)
-  pub due-is : (k : ℕ) → k < P .count → at dues k ≡ P .due (at order k)
-  pub runtime-is : (k j : ℕ) → k < P .count → at runtimes k ≡ P .runtime (at order k) j
-  pub dues-room : P .count ≤ length dues
-  pub runtimes-room : P .count ≤ length runtimes
-
 -- They show a list of n tasks that keeps its bounds, with its cycle.
 pub record Shown (n cycle : ℕ) (order periods dues runtimes : List ℕ) : Type 0 where
   pub list : TaskList

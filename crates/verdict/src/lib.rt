@@ -1,5 +1,4 @@
 // The verdict on a task list, and its table.
-mod order; // the tasks by rank
 mod walk; // the slice rule over a cycle, from event to event
 
 ghost use mathlib.Core.Path.{_≡_};
@@ -7,9 +6,9 @@ ghost use Prim.Native.Nat.{ℕ, _≤_};
 ghost use lib.ListN.{length};
 ghost use Rattle.basis.specs.Bytes.{at, overwrite};
 ghost use Rattle.tasks.specs.Bounds.{cycleOf};
+ghost use Rattle.tasks.specs.Kept.{Bounded};
 ghost use Rattle.verdict.specs.Verdict.{verdictOf};
 ghost use Rattle.verdict.specs.Table.{fitted, tabled, Built};
-ghost use Rattle.verdict.specs.Shapes.{Bounded};
 ghost use Rattle.verdict.specs.Walk.{Shown};
 ghost use Rattle.verdict.specs.Settling.{Concluded, Settled};
 use tasks::Bounds;
@@ -148,7 +147,7 @@ fn decide(list: TaskList, cycle: u32, jobs: u32, table: &mut [u8]) -> Verdict
     let mut periods = [0u32; 16];
     let mut dues = [0u32; 16];
     let mut runtimes = [0u32; 16];
-    order::by_rank(list, &mut order, &mut periods, &mut dues, &mut runtimes);
+    ranking::by_rank(list, &mut order, &mut periods, &mut dues, &mut runtimes);
     let count = list.count;
     let slices = cycle as usize;
     if table.len() < slices {

@@ -1,14 +1,16 @@
 -- `printing::write_clash` meets its contract.
+use native.Mathlib.Omega.{arith}
 use borrow.Author.Needs.{needs}
 use Rattle.printing.specs.Text.{ascii, crlf, clashHeader, clashText}
 use Rattle.printing.proofs.Chain.{chain, put-whole}
-use Rattle.printing.proofs.Rooms.{clash-room, clash-room-enough}
+use Rattle.printing.proofs.Rooms.{pair-room, clash-room-enough}
 use Rattle.printing.proofs.write_clash.Statement.{statement}
 use Rattle.printing.proofs.write_clash.Tie as tie
 
 put-pair-requires : tie.Need-put-pair-requires
-unfolding clashHeader crlf ascii
-put-pair-requires c κs = let fits = c .before .before .before .before .before .before .before .fits in clash-room _ _ (fits .reached) (fits .period) (c .before .before .before .put-text .ensures)
+put-pair-requires c κs =
+    let fits = c .before .before .before .before .before .before .before .fits in
+    pair-room _ _ _ (omega arith) (omega (arith, fits .reached)) (omega (arith, fits .period)) (c .before .before .before .put-text .ensures)
 
 returns : tie.Need-returns
 unfolding clashText clashHeader crlf ascii

@@ -3,7 +3,7 @@ use Prim.Native.Nat.{_≤_, _-_}
 use mathlib.Core.Path.{_≡_}
 use native.Mathlib.Omega.{arith}
 use Rattle.verdict.specs.Shapes.{marginAt, TightestAt}
-use Rattle.verdict.proofs.Ranking.{tightest-first, tightest-more}
+use Rattle.verdict.proofs.Tightest.{tightest-first, tightest-more}
 use Rattle.verdict.proofs.walk.tightest.Statement.{statement}
 use Rattle.verdict.proofs.walk.tightest.Tie as tie
 
