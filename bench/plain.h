@@ -48,6 +48,17 @@ struct runner {
     u32 task;
 };
 
+// What a call of the viewer's comes to: refused as by a verdict (number 0: not; the task of 18 is its place), or no, or so much was written.
+struct viewed {
+    u32 number;
+    i32 margin;
+    u32 reached;
+    u32 period;
+    usize task;
+    usize given;
+    u32 no;
+};
+
 // A list from numbers, three a task, as both sides are given it: the first 16 tasks, and how many there are.
 usize plain_list(const u32 *numbers, usize length, struct task *tasks);
 struct answer plain_judge(const struct task *tasks, usize count, u32 supply);
@@ -64,3 +75,9 @@ usize plain_whos(const struct task *tasks, usize count, u32 supply, enum mode mo
                  usize log_length);
 u32 plain_steps(const struct task *tasks, usize count, u32 supply, enum mode mode, u32 clock, const u8 *table, usize length,
                 u8 *log, usize log_length, const u8 *reports, usize steps);
+
+// A run as a Value Change Dump (docs/VCD.md): written, read back, and explained by needs. The text alone, of 1 to 4,096 entries, needs no list.
+usize plain_text(const u8 *run, usize slices, u8 *out);
+struct viewed plain_vcd_write(const struct task *tasks, usize count, u32 supply, const u8 *run, usize length, u8 *out, usize room);
+struct viewed plain_vcd_read(const struct task *tasks, usize count, u32 supply, const u8 *file, usize length, u8 *out, usize room);
+struct viewed plain_vcd_explain(const struct task *tasks, usize count, u32 supply, const u8 *file, usize length, u32 *needs, usize room);

@@ -12,8 +12,10 @@ from collections import Counter
 
 import model
 import sheets
+import viewer
 from model import CLOCK_ROUND, FILLING, LONGEST, NONE_NAMED, TABLE
 from model import Place, State, Task, bare, rounded_up
+from viewer import HEADER, run_of, text, time_line, value_line
 
 SEED = 0x0B5E55ED51ACE5
 # Their own seeds, so that what stands beside them stays as it is.
@@ -21,12 +23,13 @@ CLASHES_SEED = 0x0C1A54E55EED
 TICKS_SEED = 0x071C45EED
 DRIVES_SEED = 0x0D21FE5EED5
 QUICK_SEED = 0x0A5CED5EED
+VIEWER_SEED = 0x0D1A12A35EED
 STEPS_WANTED = 202000  # accepted steps in all
 
 # Record tags.
 END, LIST, TABLE_FILL, TABLE_BYTES, TABLE_BYTE, TABLE_LENT, BUILD = range(7)
 LOG_FILL, LOG_LENT, LOG_CHECK, START, STATE, STEP, CONVERSION = range(7, 14)
-ENTRY, REFUSAL, LOGGED, DRIVE, QUICK = range(14, 19)
+ENTRY, REFUSAL, LOGGED, DRIVE, QUICK, WRITE, FILE = range(14, 21)
 
 RUNTIME, PERIOD = range(2)  # kinds of conversion
 
@@ -34,13 +37,16 @@ RUNTIME, PERIOD = range(2)  # kinds of conversion
 COUNTED = {
     "list": LIST, "build": BUILD, "start": START, "step": STEP, "conversion": CONVERSION,
     "entry": ENTRY, "refusal": REFUSAL, "logged": LOGGED, "drive": DRIVE, "quick": QUICK,
+    "write": WRITE, "file": FILE,
 }
 
-MAGIC = b"SLICES05"
+MAGIC = b"SLICES06"
 ANSWER = "BBiIIII"  # the numbers of model.Answer
+VIEWED = "BIiII"  # those of viewer.Viewed
 SHORT_LOG = 64  # a lent log up to this long is part of every step's checksum
 MOST_TABLE, MOST_LOG, MOST_LIST = 4200, 66000, 272
 MOST_NEEDS = 4200  # and ends
+MOST_FILE = 66000  # and run, and what a file is written into
 TOP = CLOCK_ROUND - 1
 
 
@@ -267,6 +273,44 @@ class Cases:
         for trait in quick_traits(tasks) if answer[0] in (0, 7) else ():
             self.counts["quick trait", trait] += 1
 
+    def put_bytes(self, data):
+        assert len(data) <= MOST_FILE
+        self.out += struct.pack("<I", len(data)) + bytes(data)
+
+    def put_viewed(self, what, viewed):
+        self.out += struct.pack("<" + VIEWED, *viewed)
+        self.count(what, viewed.refusal)
+
+    def write(self, run, length, fill):
+        """A run of the list in hand, written into so many bytes."""
+        assert length <= MOST_FILE
+        self.put(WRITE)
+        self.put_bytes(run)
+        self.out += struct.pack("<IB", length, fill)
+        lent = pattern(length, fill)
+        viewed = viewer.write(self.tasks, self.supply, list(run), lent)
+        self.put_viewed("write", viewed)
+        self.out += struct.pack("<I", checksum(lent))
+        return viewed
+
+    def file(self, file, length, fill, jobs):
+        """A file read back into so many bytes and explained by so many needs, for the list in hand."""
+        assert length <= MOST_FILE and jobs <= MOST_NEEDS
+        self.put(FILE)
+        self.put_bytes(file)
+        self.out += struct.pack("<IBI", length, fill, jobs)
+        entries, needs = pattern(length, fill), [7] * jobs
+        read = viewer.read(self.tasks, self.supply, file, entries)
+        self.put_viewed("read", read)
+        self.out += struct.pack("<I", checksum(entries))
+        explained = viewer.explain(self.tasks, self.supply, file, needs)
+        self.put_viewed("explain", explained)
+        self.out += struct.pack("<%dI" % jobs, *needs)
+        self.counts["file"] += 1
+        for trait in file_traits(self.tasks, self.supply, file, explained, needs):
+            self.counts["file trait", trait] += 1
+        return read, explained
+
     def end(self):
         self.put(END, "I" * len(COUNTED), *(self.counts[what] for what in COUNTED))
 
@@ -491,7 +535,7 @@ def clash(dice, place):
     while True:
         dividing = divisors(dice.pick(MIDDLE + LARGE))[1:-1]
         periods = [dice.pick(dividing) for _ in range(place - 1)]
-        reached = model.common_multiple(periods)
+        reached = model.common_multiple(tuple(periods))
         if place == 2 or reached not in periods:
             break
     multiples = {t: reached // model.gcd(reached, t) * t for t in range(2, LONGEST + 1)}
@@ -1082,6 +1126,278 @@ def quick_lists(dice):
         yield tasks, 16
 
 
+# The viewer
+
+
+# What a file can be like. How it is told stands in file_traits.
+FILE_TRAITS = (
+    "cut short", "unlike in the header", "in a time", "in a value", "behind the end", "every job whole",
+    "some job short", "a job with nothing", "a job with too much", "idle while one waits",
+    "another before the first in rank",
+)
+
+
+def file_traits(tasks, supply, file, explained, needs):
+    """Where a bad file stops being like a good one; how a run is explained, or why it is not."""
+    if explained.refusal == 18:
+        at = explained.number
+        if at == len(file):
+            return ["cut short"]
+        if at < len(HEADER):
+            return ["unlike in the header"]
+        if run_of(file[:at]):
+            return ["behind the end"]
+        return ["in a time" if (at - len(HEADER)) % 15 < 6 else "in a value"]
+    if explained.refusal not in (0, viewer.NO):
+        return []
+    cycle = model.verdict(tasks, supply).cycle
+    runtimes = [task.runtime for task in tasks for _ in range(cycle // task.period)]
+    if explained.refusal == 0:
+        return ["every job whole" if needs[: len(runtimes)] == runtimes else "some job short"]
+    run = run_of(file)
+    counted = viewer.counted(tasks, cycle, run)
+    if 0 in counted:
+        return ["a job with nothing"]
+    if any(slices > runtime for slices, runtime in zip(counted, runtimes)):
+        return ["a job with too much"]
+    filled = viewer.filled(tasks, cycle, counted)
+    at = next(t for t in range(cycle) if run[t] != filled[t])
+    return ["another before the first in rank" if run[at] else "idle while one waits"]
+
+
+def some_filled(dice, tasks, cycle):
+    return viewer.filled(tasks, cycle, [need for row in some_needs(dice, tasks, cycle) for need in row])
+
+
+def by_the_table(dice, tasks, cycle):
+    """Who runs where slices that a job leaves over stay idle."""
+    left, run = some_needs(dice, tasks, cycle), []
+    for t, entry in enumerate(model.plan(tasks, TOP)[1]):
+        job = t // tasks[entry - 1].period
+        runs = entry > 0 and left[entry - 1][job] > 0
+        left[entry - 1][job] -= runs
+        run.append(entry if runs else 0)
+    return run
+
+
+def almost(dice, tasks, run):
+    """The run with two tasks exchanged, a slice given to another or to nobody, or a job's all left idle."""
+    run, t = list(run), dice.below(len(run))
+    kind = dice.pick([0, 0, 1, 2, 3])
+    others = [u for u in range(t + 1, len(run)) if run[t] and run[u] and run[u] != run[t]]
+    if kind == 0 and others:
+        run[t], run[others[0]] = run[others[0]], run[t]
+    elif kind == 1:
+        run[t] = dice.below(len(tasks) + 1)
+    elif kind == 2:
+        run[t] = 0
+    else:
+        number = dice.between(1, len(tasks))
+        period = tasks[number - 1].period
+        for t in range(t // period * period, t // period * period + period):
+            run[t] = 0 if run[t] == number else run[t]
+    return run
+
+
+def enough(dice, most):
+    return most + dice.pick([0, 0, 0, 1, 7])
+
+
+def view(cases, dice, file):
+    """With room enough for the list in hand."""
+    answer = model.verdict(cases.tasks, cases.supply)
+    cases.file(file, enough(dice, answer.cycle), dice.below(256), enough(dice, answer.jobs))
+
+
+def written_runs(cases, dice, tasks, cycle):
+    """Runs of the list in hand, and what is none, into room enough and one byte too short."""
+    anything = [dice.below(len(tasks) + 1) for _ in range(cycle)]
+    for run in (model.plan(tasks, TOP)[1], some_filled(dice, tasks, cycle), anything):
+        long = len(text(run))
+        cases.write(run, enough(dice, long), dice.below(256))
+        cases.write(run, dice.pick([long - 1, long - 1, dice.below(long)]), dice.below(256))
+        other = dice.pick([run[:-1], run + [0], run + run, [], run[:1] * dice.between(1, 40)])
+        cases.write(other, 20 * len(other) + 200, dice.below(256))
+        least = len(tasks) + 1
+        above = dice.pick([least, least, 16, 17, 31, 32, 255, dice.between(least, 255)])
+        for wrong in (run, other):
+            wrong = list(wrong)
+            if wrong:
+                wrong[dice.pick([0, len(wrong) - 1, dice.below(len(wrong))])] = above
+            cases.write(wrong, dice.pick([0, 20 * len(wrong) + 200]), dice.below(256))
+
+
+def seen_runs(cases, dice, tasks, cycle, jobs):
+    """Good files: runs that have needs, runs that have none, other lengths, entries above the count, short room."""
+    own, run = model.plan(tasks, TOP)[1], some_filled(dice, tasks, cycle)
+    other = some_filled(dice, tasks, cycle)
+    for seen in (own, run, other, by_the_table(dice, tasks, cycle), by_the_table(dice, tasks, cycle)):
+        view(cases, dice, text(seen))
+    for _ in range(5):
+        view(cases, dice, text(almost(dice, tasks, dice.pick([own, run, other]))))
+    wrong = almost(dice, tasks, run)
+    for seen in (run, wrong):  # entries, then needs, one too short
+        cases.file(text(seen), cycle - 1, dice.below(256), jobs)
+        cases.file(text(seen), cycle, dice.below(256), dice.pick([jobs - 1, jobs - 1, dice.below(jobs)]))
+    other = dice.pick([run[:-1], run + [0], run + run[:1], run + run, run[:1]]) or [0, 0]
+    above = list(dice.pick([run, other]))
+    if len(tasks) < 16:
+        above[dice.pick([0, -1, dice.below(len(above))])] = dice.pick([len(tasks) + 1, 16])
+    for seen in (other, above):
+        cases.file(text(seen), dice.pick([0, cycle]), dice.below(256), dice.pick([0, jobs]))
+
+
+def cut_and_changed(dice, file, header):
+    """The file cut at every byte; bytes changed, left out and doubled: in the header at every so many places."""
+    start = len(HEADER)
+    for at in range(len(file)):
+        yield file[:at]
+        if at < start and at % header:
+            continue
+        others = [file[at] ^ 1, file[at] ^ 32, dice.below(256), dice.pick(b"0123456789#b !\n$\r")]
+        for other in others[: 4 if at >= start else 1]:
+            yield file[:at] + bytes([other]) + file[at + 1 :]
+        yield file[:at] + file[at + 1 :]
+        yield file[: at + 1] + file[at:]
+
+
+def bad_files(dice):
+    """Files that are almost the text of a run."""
+    end = text([1, 0])
+    changes = end[len(HEADER) :]
+    yield from cut_and_changed(dice, end, 4)
+    for more in (
+        b"\n", b" ", b"#", b"b", b"b0", b"b1", b"b11", b"b00001 !\n", b"b00000 !\n#0003\n", b"\0", b"x",
+        changes, end,
+    ):
+        yield end + more
+    for old, new in ((b"us", b"ns"), (b"1 us", b"1us"), (b"\n", b"\r\n"), (b"task", b"tasks"), (b"5", b"4")):
+        yield HEADER.replace(old, new) + changes
+    dated, dumped = b"$date $end\n" + HEADER, HEADER + b"$dumpvars\n"
+    for header in (b"", HEADER * 2, dated, dumped, HEADER + b"\n", HEADER.upper()):
+        yield header + changes
+    yield end.replace(b"\n", b"\r\n")
+    yield HEADER + b"#0000\nb00001 !\n#0000\n"  # an early end mark
+    yield HEADER + b"#0000\n#0002\n"
+    yield HEADER + b"#0001\nb00001 !\n#0002\n"
+    yield HEADER + b"#0000\nb1 !\n#0001\nb0 !\n#0002\n"  # leading zeros left out, as other writers do
+    yield HEADER + b"#0\nb00001 !\n#1\nb00000 !\n#2\n"
+
+
+def after(*changes):
+    return HEADER + b"".join(time_line(t) + value_line(entry) for t, entry in changes)
+
+
+def next_times(dice):
+    """Files that are good up to a change; then times that rise and times that do not."""
+    for changes in (
+        [(0, 3)], [(0, 0), (15, 1)], [(0, 1), (99, 0)], [(0, 0), (999, 1)], [(0, 1), (4094, 0)],
+        [(0, 0), (4095, 1)],
+    ):
+        t = changes[-1][0]
+        rounded = {t // 10 * 10, (t // 10 + 1) * 10, (t // 100 + 1) * 100, (t // 1000 + 1) * 1000}
+        times = rounded | {t - 1, t, t + 1, t + 2, dice.below(10000)}
+        for time in sorted(times | {0, 4089, 4095, 4096, 4097, 4100, 5000, 9999}):
+            if 0 <= time <= 9999:
+                file = after(*changes) + time_line(time)
+                yield file
+                yield file + dice.pick([b"b", value_line(2), time_line(time + 1)])
+        for line in (b"#12\n", b"#00012\n", b"# 012\n", b"#+001\n", b"#-001\n", b"#\n", b"\n", b"$end\n"):
+            yield after(*changes) + line
+
+
+def next_values(dice):
+    """The same with values that are another entry, the same one, or none."""
+    for entry in (0, 1, 2, 7, 8, 15, 16):
+        about = {entry - 1, entry, entry + 1, entry ^ 1, entry ^ 8, entry ^ 16, dice.below(32)}
+        for value in sorted(about | {0, 15, 16, 17, 24, 31}):
+            if 0 <= value <= 31:
+                yield after((0, entry), (1, value)) + time_line(2)
+    for value in range(32):
+        yield after((0, value)) + time_line(1)
+
+
+def small_accepted(dice):
+    """A list with a cycle of at most 24, and mostly with a run-time of several slices."""
+    while True:
+        cycle = dice.pick([6, 8, 12, 12, 16, 20, 24])
+        tasks = random_tasks(dice, cycle, dice.between(1, 4), dice.between(60, 110))
+        long = any(task.runtime > 1 for task in tasks) or dice.one_in(8)
+        if long and model.verdict(tasks, 0).refusal == 0:
+            return tasks
+
+
+def viewed_lists(dice):
+    """Accepted lists that are small enough, with their supplies."""
+    for tasks, answer, _ in model.WORKED:
+        if not answer.refusal and answer.cycle < 100:
+            yield tasks, 0
+    for _ in range(40):
+        yield small_accepted(dice), 0
+    yield [Task(16, 1, 3)] * 16, 48  # no entry up to 16 is above the count
+    yield [Task(16, 1, 3)] * 15, 45
+
+
+def tiny_lists():
+    """Accepted lists of which every run is tried."""
+    return bare((1, 1)), bare((3, 2)), bare((3, 1), (3, 2)), bare((4, 2), (2, 1)), bare((2, 1), (4, 1))
+
+
+def refused_lists():
+    """A few for each number, with their supplies."""
+    seen = Counter()
+    for tasks, supply in bound_lists():
+        refusal = len(tasks) <= 18 and model.verdict(tasks, supply).refusal
+        if refusal and seen[refusal] < 5:
+            seen[refusal] += 1
+            yield tasks, supply
+
+
+def any_run(dice):
+    return [dice.below(dice.pick([3, 17, 256])) for _ in range(dice.below(9))]
+
+
+def viewer_cases(cases, dice):
+    for tasks, supply in refused_lists():
+        cases.list(tasks, supply)
+        for _ in range(2):
+            cases.write(any_run(dice), dice.pick([0, 300]), dice.below(256))
+        good = text([dice.below(17) for _ in range(dice.between(1, 5))])
+        for file in (good, good[: dice.below(len(good))]):
+            cases.file(file, dice.pick([0, 20]), dice.below(256), dice.pick([0, 20]))
+    for tasks, supply in viewed_lists(dice):
+        answer = cases.list(tasks, supply)
+        written_runs(cases, dice, tasks, answer.cycle)
+        seen_runs(cases, dice, tasks, answer.cycle, answer.jobs)
+    for tasks in tiny_lists():
+        cycle = cases.list(tasks, 0).cycle
+        for number in range((len(tasks) + 1) ** cycle):
+            run = [number // (len(tasks) + 1) ** t % (len(tasks) + 1) for t in range(cycle)]
+            view(cases, dice, text(run))
+    cases.list(bare((2, 1)), 0)
+    for files in (bad_files(dice), next_values(dice)):
+        for file in files:
+            view(cases, dice, file)
+    cases.list(bare((4096, 1)), 0)
+    for file in next_times(dice):
+        view(cases, dice, file)
+    for run in ([1] + [0] * 4095, [0] * 4095 + [1], [0] * 4096, [1] * 4097, [0] * 4095, [1] * 9999):
+        view(cases, dice, text(run))
+    for run in ([0] * 4095 + [1], [0] * 4097):
+        cases.write(run, 200, dice.below(256))
+    # Full size: a change in every slice makes the longest file there is.
+    for tasks in (bare((2, 1), (4096, 2048)), (Task(4096, 256, 1),) * 16, bare((63, 1), (64, 1))):
+        answer = cases.list(tasks, 16)
+        run = model.plan(tasks, 16)[1]
+        file = text(run)
+        for length in (len(file), len(file) - 1, MOST_FILE):
+            cases.write(run, length, dice.below(256))
+        view(cases, dice, file)
+        if len(tasks) == 2 and answer.cycle == LONGEST:
+            assert len(file) == viewer.LONGEST_TEXT
+            cases.file(file + b"\n", 4096, dice.below(256), 0)
+
+
 def all_cases():
     dice, cases = Dice(SEED), Cases()
     conversions(cases, dice)
@@ -1116,6 +1432,7 @@ def all_cases():
     drives(cases, Dice(DRIVES_SEED))
     for tasks, supply in quick_lists(Dice(QUICK_SEED)):
         cases.quick(tasks, supply)
+    viewer_cases(cases, Dice(VIEWER_SEED))
     cases.end()
     assert all_there(cases)
     return cases
@@ -1130,20 +1447,22 @@ def all_there(cases):
         ("entry", range(3)), ("refusal", range(7)), ("logged", range(5)),
         ("drive", (0, 3, 4, 5, 6, 7, 12)), ("drive built", (0, 8)),
         ("driven in mode", (TABLE, FILLING, NONE_NAMED)), ("clash at", range(2, 17)),
-        ("quick", range(8)),
+        ("quick", range(8)), ("write", (*range(8), 19, 30, 31)),
+        ("read", (*range(8), 18, 19, 30, 31)), ("explain", (*range(8), 18, 19, 30, 31, viewer.NO)),
     ):
         for refusal in refusals:
             assert cases.counts[what, refusal], (what, refusal)
     assert all(cases.counts["tick cost", some, refusal] for some in (0, 1) for refusal in (0, 17))
     assert cases.counts["whole drives"] >= 100 and cases.counts["clash of several"] >= 30
     assert all(cases.counts["quick trait", trait] >= 250 for trait in QUICK_TRAITS)
+    assert all(cases.counts["file trait", trait] >= 20 for trait in FILE_TRAITS)
     return cases.counts["list"] >= 2000 and cases.counts["step"] >= 200000
 
 
 def report(cases):
     print("%d bytes" % len(cases.out))
-    for what in ("list", "build", "start", "step", "conversion", "drive", "quick"):
-        parts = ["%d: %d" % (r, cases.counts[what, r]) for r in range(18) if cases.counts[what, r]]
+    for what in ("list", "build", "start", "step", "conversion", "drive", "quick", "write", "read", "explain"):
+        parts = ["%d: %d" % (r, cases.counts[what, r]) for r in range(256) if cases.counts[what, r]]
         print("%s: %d, by refusal (0 accepted) %s" % (what, cases.counts[what], ", ".join(parts)))
     who_parts = ["%d: %d" % (r, cases.counts["who", r]) for r in (0, 9, 10, 11)]
     print("who: by refusal " + ", ".join(who_parts))
@@ -1164,6 +1483,8 @@ def report(cases):
     print("clashes after a multiple that is no period: %d" % cases.counts["clash of several"])
     for trait in QUICK_TRAITS:
         print("quick questions, %s: %d" % (trait, cases.counts["quick trait", trait]))
+    for trait in FILE_TRAITS:
+        print("files, %s: %d" % (trait, cases.counts["file trait", trait]))
 
 
 def main(arguments):

@@ -2,14 +2,19 @@
 
     python3 tests/reference/program.py < INPUT        prints what the program has to print
     python3 tests/reference/program.py quick < INPUT  prints what the quick one has to print
-    python3 tests/reference/program.py --check DIR    holds every DIR/NAME.out and DIR/NAME.quick to what
-                                                      they print for DIR/NAME.in
+    python3 tests/reference/program.py vcd < INPUT    prints the dump
+    python3 tests/reference/program.py explain LIST FILE
+                                                      prints the needs
+    python3 tests/reference/program.py --check DIR    holds every DIR/NAME.out, .quick and .vcd to what they
+                                                      print for DIR/NAME.in, and every DIR/explain/NAME.expected
+                                                      to what is printed for NAME.csv and NAME.vcd there
 """
 import pathlib
 import re
 import sys
 
 import model
+import viewer
 
 SUPPLY = 65536
 FIELD = rb"(0|[1-9][0-9]{0,8})"
@@ -52,24 +57,66 @@ def quick_answer(data):
     return b"refusal,task\r\n%d,%d\r\n" % (not_in_form or model.quick(tasks, SUPPLY))
 
 
-PROGRAMS = {".out": answer, ".quick": quick_answer}
+def vcd_answer(data):
+    """The table of an accepted list, which is its filling run where every job takes its whole run-time."""
+    not_in_form, tasks = read(data)
+    if not_in_form:
+        return refusal(*not_in_form, 0)
+    verdict, table = model.plan(tasks, SUPPLY)
+    if verdict.refusal:
+        return refusal(verdict.refusal, verdict.task, verdict.margin)
+    runtimes = [task.runtime for task in tasks for _ in range(verdict.cycle // task.period)]
+    assert viewer.filled(tasks, verdict.cycle, runtimes) == table
+    return viewer.text(table)
+
+
+def explain_answer(data, file):
+    not_in_form, tasks = read(data)
+    if not_in_form:
+        return refusal(*not_in_form, 0)
+    needs = [0] * model.LONGEST
+    viewed = viewer.explain(tasks, SUPPLY, file, needs)
+    if viewed.refusal == viewer.NO:
+        return b"no\r\n"
+    if viewed.refusal:
+        return refusal(viewed.refusal, viewed.number, viewed.margin)
+    cycle = model.verdict(tasks, SUPPLY).cycle
+    jobs = [(number, job) for number, task in enumerate(tasks, 1) for job in range(cycle // task.period)]
+    assert len(jobs) == viewed.number
+    records = [b"%d,%d,%d\r\n" % (*job, need) for job, need in zip(jobs, needs)]
+    return b"task,job,need\r\n" + b"".join(records)
+
+
+PROGRAMS = {".out": answer, ".quick": quick_answer, ".vcd": vcd_answer}
+
+
+def stored_outputs(folder):
+    """(where an output is stored, what it has to be)."""
+    for case in sorted(folder.glob("*.in")):
+        for suffix, program in PROGRAMS.items():
+            yield case.with_suffix(suffix), program(case.read_bytes())
+    for case in sorted(folder.glob("explain/*.csv")):
+        file = case.with_suffix(".vcd").read_bytes()
+        yield case.with_suffix(".expected"), explain_answer(case.read_bytes(), file)
 
 
 def check(folder):
-    wrong = 0
-    cases = sorted(pathlib.Path(folder).glob("*.in"))
-    for case in cases:
-        for suffix, program in PROGRAMS.items():
-            stored = case.with_suffix(suffix)
-            if not stored.exists() or stored.read_bytes() != program(case.read_bytes()):
-                print(f"{stored.name}: the stored output is not what the paper asks for")
-                wrong += 1
-    print(f"{len(cases)} cases of {len(PROGRAMS)} programs, {wrong} wrong")
-    return wrong == 0 and len(cases) > 0
+    count, wrong = 0, 0
+    for stored, wanted in stored_outputs(pathlib.Path(folder)):
+        count += 1
+        if not stored.exists() or stored.read_bytes() != wanted:
+            print(f"{stored.name}: the stored output is not what the paper asks for")
+            wrong += 1
+    print(f"{count} outputs of {len(PROGRAMS) + 1} programs, {wrong} wrong")
+    return wrong == 0 and count > 0
 
 
 if __name__ == "__main__":
     if sys.argv[1:2] == ["--check"]:
         sys.exit(0 if check(sys.argv[2]) else 1)
-    program = PROGRAMS[".quick" if sys.argv[1:] == ["quick"] else ".out"]
-    sys.stdout.buffer.write(program(sys.stdin.buffer.read()))
+    if sys.argv[1:2] == ["explain"]:
+        given = [pathlib.Path(name).read_bytes() for name in sys.argv[2:]]
+        sys.stdout.buffer.write(explain_answer(*given))
+    else:
+        program = PROGRAMS["." + sys.argv[1] if sys.argv[1:] else ".out"]
+        sys.stdout.buffer.write(program(sys.stdin.buffer.read()))

@@ -11,12 +11,13 @@ import sys
 
 import generate
 import model
+import viewer
 from generate import checksum, pattern
 
 NAMES = (
     "end", "list", "table fill", "table bytes", "table byte", "table lent", "build", "log fill",
     "log lent", "log check", "start", "state", "step", "conversion", "entry", "refusal", "logged",
-    "drive", "quick",
+    "drive", "quick", "write", "file",
 )
 
 
@@ -166,6 +167,31 @@ class Replay:
         supply, tasks = self.take_list()
         self.compare(self.take("BB"), model.quick(tasks, supply))
         return supply, tasks
+
+
+    def take_bytes(self):
+        return self.file.read(self.take("I")[0])
+
+    def read_write(self):
+        run = self.take_bytes()
+        length, fill = self.take("IB")
+        lent = pattern(length, fill)
+        viewed = viewer.write(self.tasks, self.supply, list(run), lent)
+        self.compare(self.take(generate.VIEWED), tuple(viewed))
+        self.compare(self.take("I"), (checksum(lent),))
+        return run, length, fill
+
+    def read_file(self):
+        file = self.take_bytes()
+        length, fill, jobs = self.take("IBI")
+        entries, needs = pattern(length, fill), [7] * jobs
+        read = viewer.read(self.tasks, self.supply, file, entries)
+        self.compare(self.take(generate.VIEWED), tuple(read))
+        self.compare(self.take("I"), (checksum(entries),))
+        explained = viewer.explain(self.tasks, self.supply, file, needs)
+        self.compare(self.take(generate.VIEWED), tuple(explained))
+        self.compare(self.take("%dI" % jobs), tuple(needs))
+        return file, length, fill, jobs
 
 
 def show(replay, tag, given, state):

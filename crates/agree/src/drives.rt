@@ -29,12 +29,12 @@ fn bytes_agree(number: u32, what: &[u8], expected: &mut [u8], found: &[u8]) -> b
     told::holds(number, what, check::same(expected, found))
 }
 
-// End for end.
-fn ends_agree(number: u32, ends: &[u32]) -> bool {
+// Number for number.
+pub(crate) fn words_agree(number: u32, what: &[u8], found: &[u32]) -> bool {
     let mut same = true;
     let mut i = 0;
-    while i < ends.len() {
-        let agrees = told::agrees(number, b"end", taken::word(), ends[i]);
+    while i < found.len() {
+        let agrees = told::agrees(number, what, taken::word(), found[i]);
         same = same & agrees;
         i += 1;
     }
@@ -51,7 +51,7 @@ fn table_agrees(number: u32, table: &[u8]) -> bool {
 fn left_agrees(number: u32, table: &[u8], log: &[u8], second: &mut [u8], ends: &[u32]) -> bool {
     let entries = table_agrees(number, table);
     let logged = bytes_agree(number, b"log", second, log);
-    let ended = ends_agree(number, ends);
+    let ended = words_agree(number, b"end", ends);
     entries & logged & ended
 }
 

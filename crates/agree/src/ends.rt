@@ -15,7 +15,7 @@ fn last_agrees(number: u32, found: u32) -> bool {
     count & formed
 }
 
-fn counts_agree(number: u32, counts: [u32; 19]) -> bool {
+fn counts_agree(number: u32, counts: [u32; 21]) -> bool {
     let lists = count_agrees(number, counts[1]);
     let builds = count_agrees(number, counts[6]);
     let starts = count_agrees(number, counts[10]);
@@ -25,8 +25,11 @@ fn counts_agree(number: u32, counts: [u32; 19]) -> bool {
     let refusals = count_agrees(number, counts[15]);
     let logged = count_agrees(number, counts[16]);
     let drives = count_agrees(number, counts[17]);
-    let asks = last_agrees(number, counts[18]);
-    lists & builds & starts & steps & conversions & entries & refusals & logged & drives & asks
+    let asks = count_agrees(number, counts[18]);
+    let writes = count_agrees(number, counts[19]);
+    let files = last_agrees(number, counts[20]);
+    let before = lists & builds & starts & steps & conversions & entries & refusals & logged;
+    before & drives & asks & writes & files
 }
 
 pub(crate) fn end(hand: Hand) -> Hand {
@@ -43,7 +46,7 @@ fn counted(count: u32, what: &[u8]) {
     io::write_all(STDOUT_FILENO, what);
 }
 
-pub(crate) fn summary(counts: [u32; 19]) {
+pub(crate) fn summary(counts: [u32; 21]) {
     counted(counts[1], b" lists, ");
     counted(counts[6], b" builds, ");
     counted(counts[10], b" starts, ");
@@ -53,5 +56,7 @@ pub(crate) fn summary(counts: [u32; 19]) {
     counted(counts[15], b" refusals and ");
     counted(counts[16], b" log bytes read, ");
     counted(counts[17], b" drives, ");
-    counted(counts[18], b" quick questions: all agree\n");
+    counted(counts[18], b" quick questions, ");
+    counted(counts[19], b" runs written, ");
+    counted(counts[20], b" files read back and explained: all agree\n");
 }

@@ -9,6 +9,7 @@ mod tables; // records of the table
 mod logs; // records of the log and of starts
 mod steps; // records of states and steps
 mod drives; // records of drives
+mod views; // records of the viewer
 mod ends; // the end record
 
 use cases::Answer;
@@ -29,7 +30,7 @@ struct Hand {
     table_lent: usize,
     log_held: usize,
     log_lent: usize,
-    counts: [u32; 19],
+    counts: [u32; 21],
     number: u32,
     open: bool,
     agreed: bool,
@@ -71,7 +72,7 @@ fn empty() -> Hand {
         table_lent: 0,
         log_held: 0,
         log_lent: 0,
-        counts: [0; 19],
+        counts: [0; 21],
         number: 0,
         open: true,
         agreed: false,
@@ -119,6 +120,8 @@ fn on_rest(hand: Hand, tag: u8) -> Hand {
         15 => reads::refusal(hand),
         16 => reads::logged(hand),
         18 => asks::ask(hand),
+        19 => views::write(hand),
+        20 => views::file(hand),
         _ => open_if_formed(hand, false),
     }
 }
@@ -133,9 +136,9 @@ fn by_tag(hand: Hand, tag: u8, table: &mut [u8], log: &mut [u8], second: &mut [u
     }
 }
 
-fn counted(counts: [u32; 19], tag: u8) -> [u32; 19] {
+fn counted(counts: [u32; 21], tag: u8) -> [u32; 21] {
     let at = tag as usize;
-    if 19 <= at {
+    if 21 <= at {
         return counts;
     }
     let mut after = counts;

@@ -45,6 +45,7 @@ pub(crate) fn refusal(hand: Hand) -> Hand {
         Refusal::Run(number) => agree(hand, 4, number),
         Refusal::Program(number) => agree(hand, 5, number),
         Refusal::Conversion => agree(hand, 6, 0),
+        Refusal::Viewer(number) => agree(hand, 7, number),
     }
 }
 

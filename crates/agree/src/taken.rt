@@ -81,6 +81,24 @@ pub(crate) fn take_answer() -> Answer {
     }
 }
 
+// What a call on the viewer comes to, in an answer's numbers: refusal 255 is a no, and the task is what is given, or 18's place.
+pub(crate) fn take_viewed() -> Answer {
+    let refusal = byte();
+    let task = size();
+    let margin = word();
+    let reached = word();
+    let period = word();
+    Answer {
+        refusal: refusal as u32,
+        task,
+        margin: signed(margin),
+        cycle: 0,
+        jobs: 0,
+        reached,
+        period,
+    }
+}
+
 fn take_task() -> Task {
     let period = word();
     let runtime = word();
@@ -204,7 +222,7 @@ pub(crate) fn take_last() -> Last {
 pub(crate) fn take_magic() -> bool {
     let mut magic = [0u8; 8];
     io::read_full(STDIN_FILENO, &mut magic);
-    check::same(&magic, b"SLICES05")
+    check::same(&magic, b"SLICES06")
 }
 
 // A record's tag, or one that is none at the end of the input.

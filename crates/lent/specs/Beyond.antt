@@ -1,8 +1,8 @@
--- Places beyond the task count do not matter: two lists of one count whose tasks are the same give the same bounds, verdict, quick answer, table and state of a start.
+-- Places beyond the task count do not matter: two lists of one count whose tasks are the same give the same bounds, verdict, quick answer, table, filling runs and state of a start.
 use mathlib.Core.Path.{_≡_, refl, sym, ap, _∙_}
 use mathlib.Core.Bool.{false, _&&_, _||_}
 use mathlib.Core.List.{List, [], _∷_}
-use Prim.Native.Nat.{ℕ, zero, suc, _+_, _-_, _*_, _/_, _%_, _≤_, _<_}
+use Prim.Native.Nat.{ℕ, zero, suc, _+_, _-_, _*_, _/_, _%_, _≤_, _<_, min}
 use native.Mathlib.Omega.{arith}
 use lib.Dec.{leb, ltb, eqb}
 use lib.IntN.{pos, subℕ}
@@ -13,7 +13,7 @@ use Rattle.basis.specs.Least.{least}
 use Rattle.basis.specs.Slices.{ceil}
 use Rattle.basis.specs.Sum.{sum-ext}
 use Rattle.basis.specs.Answer.{Answer, refusal, clash, none, _orElse_, firstFound}
-use Rattle.plan.specs.Plan.{Plan, job, age, keyIn, wants, pick, gets, had, entry, table, given, ranksBefore, asks, bound}
+use Rattle.plan.specs.Plan.{Plan, Demand, job, age, keyIn, wants, pick, gets, had, entry, table, takes, filling, given, ranksBefore, asks, bound}
 use Rattle.plan.specs.Rank.{first-ext}
 use Rattle.plan.specs.Run.{had-first, had-next}
 use Rattle.plan.specs.Points.{inLevel, isMultiple, isPoint, pointsFrom, points, passesAmong, failsAtPoints, firstWithout}
@@ -63,30 +63,44 @@ module _ (ts us : List Task) (n : ℕ) (same : (i : ℕ) → i < n → taskAt ts
   unfolding ranksBefore
   ranks-same i k li lk = λ j. ltb (key-same 0 i li j) (key-same 0 k lk j) || (eqb (key-same 0 i li j) (key-same 0 k lk j) && ltb i k)
 
-  wants-same : (t : ℕ) (h k : ℕ → ℕ) (i : ℕ) → i < n → h i ≡ k i → wants P (P .runtime) t h i ≡ wants Q (Q .runtime) t k i
-  unfolding wants age job planOf
-  wants-same t h k i li e = λ j. choose (ltb (t % same i li j .period) (same i li j .period)) (same i li j .runtime - e j) 0
+  -- under demands that agree
+  module _ (d c : Demand) (agree : (i x : ℕ) → i < n → d i x ≡ c i x) where
+    wants-same : (t : ℕ) (h k : ℕ → ℕ) (i : ℕ) → i < n → h i ≡ k i → wants P d t h i ≡ wants Q c t k i
+    unfolding wants age job planOf
+    wants-same t h k i li e = λ j. choose (ltb (t % same i li j .period) (same i li j .period)) ((agree i (t / taskAt ts i .period) li ∙ (λ x. c i (t / same i li x .period))) j - e j) 0
 
-  pick-same : (t : ℕ) (h k : ℕ → ℕ) → ((i : ℕ) → i < n → h i ≡ k i) → pick P (P .runtime) t h ≡ pick Q (Q .runtime) t k
-  unfolding pick planOf
-  pick-same t h k e = first-ext (keyIn P t) (keyIn Q t) (wants P (P .runtime) t h) (wants Q (Q .runtime) t k) n (key-same t) (λ i li. wants-same t h k i li (e i li))
+    pick-same : (t : ℕ) (h k : ℕ → ℕ) → ((i : ℕ) → i < n → h i ≡ k i) → pick P d t h ≡ pick Q c t k
+    unfolding pick planOf
+    pick-same t h k e = first-ext (keyIn P t) (keyIn Q t) (wants P d t h) (wants Q c t k) n (key-same t) (λ i li. wants-same t h k i li (e i li))
 
-  had-same : (t i : ℕ) → i < n → had P (P .runtime) t i ≡ had Q (Q .runtime) t i
-  unfolding entry age planOf
-  had-same zero i li = had-first P (P .runtime) i ∙ sym (had-first Q (Q .runtime) i)
-  had-same (suc t) i li =
-      had-next P (P .runtime) i li t
-      ∙ (λ j. choose (eqb (suc t % same i li j .period) 0) 0 (had-same t i li j + gets (pick-same t (had P (P .runtime) t) (had Q (Q .runtime) t) (had-same t) j) i))
-      ∙ sym (had-next Q (Q .runtime) i li t)
+    had-same : (t i : ℕ) → i < n → had P d t i ≡ had Q c t i
+    unfolding entry age planOf
+    had-same zero i li = had-first P d i ∙ sym (had-first Q c i)
+    had-same (suc t) i li =
+        had-next P d i li t
+        ∙ (λ j. choose (eqb (suc t % same i li j .period) 0) 0 (had-same t i li j + gets (pick-same t (had P d t) (had Q c t) (had-same t) j) i))
+        ∙ sym (had-next Q c i li t)
 
-  entry-same : (t : ℕ) → entry P (P .runtime) t ≡ entry Q (Q .runtime) t
-  unfolding entry
-  entry-same t = pick-same t (had P (P .runtime) t) (had Q (Q .runtime) t) (had-same t)
+    entry-same : (t : ℕ) → entry P d t ≡ entry Q c t
+    unfolding entry
+    entry-same t = pick-same t (had P d t) (had Q c t) (had-same t)
+
+  runtime-same : (i k : ℕ) → i < n → P .runtime i k ≡ Q .runtime i k
+  unfolding planOf
+  runtime-same i k li = λ j. same i li j .runtime
+
+  table-same : (t : ℕ) → table P t ≡ table Q t
+  unfolding table
+  table-same = entry-same (P .runtime) (Q .runtime) runtime-same
+
+  pub filling-same : (need : Demand) (t : ℕ) → filling P need t ≡ filling Q need t
+  unfolding filling takes
+  filling-same need = entry-same (takes P need) (takes Q need) (λ i k li j. min (need i k) (runtime-same i k li j))
 
   -- ---- lateness
   missing-same : (t i : ℕ) → i < n → missing P t i ≡ missing Q t i
   unfolding missing received table age job planOf
-  missing-same t i li = λ j. choose (eqb (suc (t % same i li j .period)) (same i li j .period)) (same i li j .runtime - (had-same t i li j + gets (entry-same t j) i)) 0
+  missing-same t i li = λ j. choose (eqb (suc (t % same i li j .period)) (same i li j .period)) (same i li j .runtime - (had-same (P .runtime) (Q .runtime) runtime-same t i li j + gets (table-same t j) i)) 0
 
   missed-same : (t : ℕ) → missedAt P t ≡ missedAt Q t
   unfolding missedAt planOf
@@ -104,8 +118,8 @@ module _ (ts us : List Task) (n : ℕ) (same : (i : ℕ) → i < n → taskAt ts
 
   -- ---- margins
   given-same : (i s k : ℕ) → given P (P .runtime) i s k ≡ given Q (Q .runtime) i s k
-  unfolding given
-  given-same i s k = sum-ext _ _ k (λ x _. ap (λ (e : ℕ). gets e i) (entry-same (s + x)))
+  unfolding given table
+  given-same i s k = sum-ext _ _ k (λ x _. ap (λ (e : ℕ). gets e i) (table-same (s + x)))
 
   margin-same : (i : ℕ) → i < n → margin P i ≡ margin Q i
   unfolding margin firstEnd planOf
@@ -168,9 +182,14 @@ module _ (ts us : List Task) (n : ℕ) (same : (i : ℕ) → i < n → taskAt ts
   multiple-same zero h = refl
   multiple-same (suc k) h = λ j. lcmOf (multiple-same k (omega arith) j) (same k h j .period)
 
-  jobs-same : (c : ℕ) → jobSum ts c n ≡ jobSum us c n
+  pub cycle-same : cycleOf l ≡ cycleOf m
+  unfolding cycleOf
+  cycle-same = multiple-same n (omega arith)
+
+  -- the jobs of the first k tasks
+  pub jobs-same : (k : ℕ) → k ≤ n → jobSum ts (cycleOf l) k ≡ jobSum us (cycleOf m) k
   unfolding jobSum
-  jobs-same c = sum-ext _ _ n (λ i li. ap (λ (t : Task). c / t .period) (same i li))
+  jobs-same k h = sum-ext _ _ k (λ i li j. cycle-same j / same i (omega arith) j .period)
 
   found-same : (supply : ℕ) → found l supply ≡ found m supply
   unfolding found ofTask ofMemory ofCycle
@@ -181,10 +200,8 @@ module _ (ts us : List Task) (n : ℕ) (same : (i : ℕ) → i < n → taskAt ts
       orElse first-found-same (ofCycle ts) (ofCycle us) n (λ i li k. choose (ltb 4096 (multiple-same (suc i) li k)) (clash (suc i) (multiple-same i (omega arith) k) (same i li k .period)) none) j
 
   bounds-same : (supply : ℕ) → boundsOf l supply ≡ boundsOf m supply
-  unfolding boundsOf jobsOf cycleOf
-  bounds-same supply =
-      let cycle : multiple ts n ≡ multiple us n = multiple-same n (omega arith) in
-      λ j. answer (found-same supply j) (cycle j) ((ap (λ (c : ℕ). jobSum ts c n) cycle ∙ jobs-same (multiple us n)) j)
+  unfolding boundsOf jobsOf
+  bounds-same supply = λ j. answer (found-same supply j) (cycle-same j) (jobs-same n (omega arith) j)
 
   -- ---- the answers
   judged-same : 0 < n → (cycle jobs : ℕ) (late : Late) → judged P cycle jobs late ≡ judged Q cycle jobs late
@@ -214,8 +231,7 @@ module _ (ts us : List Task) (n : ℕ) (same : (i : ℕ) → i < n → taskAt ts
   quick-same supply = quick-from-same (boundsOf l supply) ∙ ap (quickFrom m) (bounds-same supply)
 
   pub entries-same : (cycle : ℕ) (old : List ℕ) → overwrite (table P) cycle old ≡ overwrite (table Q) cycle old
-  unfolding table
-  entries-same cycle old = overwrite-same (table P) (table Q) old cycle (λ t _. entry-same t)
+  entries-same cycle old = overwrite-same (table P) (table Q) old cycle (λ t _. table-same t)
 
   pub state-same : (cycle : ℕ) (mode : Mode) (clock : ℕ) → startState l cycle mode clock ≡ startState m cycle mode clock
   unfolding startState

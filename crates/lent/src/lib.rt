@@ -52,7 +52,7 @@ fn with_task(list: TaskList, i: usize, task: Task) -> TaskList
 }
 
 // The first 16 records, by value, and how many there are.
-fn copied(tasks: &[Task]) -> TaskList
+pub fn copied(tasks: &[Task]) -> TaskList
     ensures { λ r. ⌜ r ≡ listOf (now (tasks .entry)) ⌝ }
 {
     let count = tasks.len();

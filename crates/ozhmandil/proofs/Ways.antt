@@ -4,20 +4,17 @@ use mathlib.Core.List.{List, []}
 use Prim.Native.Nat.{ℕ, _≤_, _<_}
 use native.Mathlib.Omega.{arith}
 use lib.IntN.{ℤ, pos}
-use lib.ListN.{length, getD, take, replicate, length-replicate}
-use lib.Seq.{length-take-le, getD-take, ext-getD}
-use borrow.Author.Tests.{le-ltb, eq-eqb, ne-eqb}
+use lib.ListN.{length, getD, take}
+use borrow.Author.Tests.{eq-eqb, ne-eqb}
 use Rattle.basis.specs.Choose.{choose, choose-yes, choose-no}
-use Rattle.basis.specs.Bytes.{overwrite, overwrite-length, overwritten-length, overwrite-at}
+use Rattle.basis.specs.Bytes.{overwrite, overwritten-length}
 use Rattle.basis.specs.Answer.{refusal}
-use Rattle.plan.specs.Plan.{table}
 use Rattle.tasks.specs.declared.TaskList.{TaskList}
-use Rattle.tasks.specs.List.{planOf}
 use Rattle.verdict.specs.declared.Verdict.{Verdict}
 use Rattle.verdict.specs.declared.Verdict.the-variants.{Accepted, Refused}
 use Rattle.verdict.specs.Verdict.{verdictOf, verdictAnswer}
-use Rattle.verdict.specs.Table.{fitted, tabled, Built}
-use Rattle.verdict.specs.Answers.{accepted-tells, refused-not-0}
+use Rattle.verdict.specs.Table.{Built}
+use Rattle.verdict.specs.Answers.{refused-not-0}
 use Rattle.records.specs.declared.Form.the-variants.{Good, Bad}
 use Rattle.records.specs.declared.Parsed.{Parsed}
 use Rattle.records.specs.Grammar.{formAnswer, readOf, Reads}
@@ -25,6 +22,7 @@ use Rattle.records.specs.Reading.{good-is-0, bad-is-15}
 use Rattle.printing.specs.Text.{refusalText, clashText, tableText}
 use Rattle.printing.specs.Written.{Written}
 use Rattle.output.specs.Output.{recordOf, entries, too-long, bad-line, refused, accepted, Answers, noteOf, of-no-list, of-bad-line, of-list, Noted}
+use Rattle.output.specs.Building.{built-judged, built-within, built-entries}
 
 -- ---- the refusal record of an answer
 module _ {old new : List ℕ} {r : ℕ} (v : Verdict) (task : ℕ) (margin m : ℤ) (same : m ≡ margin) where
@@ -58,28 +56,10 @@ module _ {input old new : List ℕ} {r : ℕ} where
         }
 
 -- ---- an accepted list
--- The first entries of bytes that are written over do not depend on these.
-first-entries : (f : ℕ → ℕ) (bytes : List ℕ) (n : ℕ) → n ≤ length bytes → take n (overwrite f n bytes) ≡ overwrite f n (replicate n 0)
-first-entries f bytes n l =
-    let long : length (take n (overwrite f n bytes)) ≡ n = length-take-le n (overwrite f n bytes) (omega (arith, overwrite-length f bytes n)) in
-    ext-getD 0 _ _ (omega (arith, long, overwrite-length f (replicate n 0) n, length-replicate {A = ℕ} n 0))
-    (λ i li.
-    getD-take n (overwrite f n bytes) i 0 (omega (arith, long))
-    ∙ overwrite-at f bytes 0 n i (omega (arith, long)) (omega (arith, long))
-    ∙ sym (overwrite-at f (replicate n 0) 0 n i (omega (arith, long)) (omega (arith, long, length-replicate {A = ℕ} n 0))))
-
 module _ (l : TaskList) (v : Verdict) (e : v ≡ verdictOf l 65536) (cycle jobs task : ℕ) (margin : ℤ) (q : v ≡ Accepted cycle jobs task margin) where
-  within : cycle ≤ 4096
-  unfolding verdictAnswer
-  within =
-      let K = accepted-tells l 65536 cycle jobs task margin (sym e ∙ q) in
-      omega (arith, ap (λ (x : Verdict). verdictAnswer x .cycle) (K .is), K .keeps .cycle-within)
-
   module _ (lent built : List ℕ) (room : 4096 ≤ length lent) (w : Verdict) (is-built : Built l 65536 lent built w) where
-    -- A table of 4,096 entries is never too short.
     built-accepted : w ≡ Accepted cycle jobs task margin
-    unfolding fitted
-    built-accepted = is-built .answer ∙ ap (λ (x : Verdict). fitted x (length lent)) (sym e ∙ q) ∙ choose-no _ _ _ (le-ltb (length lent) cycle (omega (arith, within)))
+    built-accepted = built-judged l 65536 room is-built ∙ sym e ∙ q
 
     pub never-short : {A : Type 0} (number task′ : ℕ) (margin′ : ℤ) (reached period : ℕ) → w ≡ Refused number task′ margin′ reached period → A
     never-short number task′ margin′ reached period short =
@@ -87,23 +67,20 @@ module _ (l : TaskList) (v : Verdict) (e : v ≡ verdictOf l 65536) (cycle jobs 
         let z : _≡_ {A = ℕ} 0 1 = cc in
         absurd (omega arith)
 
-    pub table-printed : take cycle built ≡ entries l cycle
-    unfolding tabled entries
-    table-printed = ap (take cycle) (is-built .bytes ∙ ap (λ (x : Verdict). tabled l x lent) built-accepted) ∙ first-entries (table (planOf l)) lent cycle (omega (arith, within))
-
   pub answers-table : {input old new : List ℕ} {r : ℕ} (p : Parsed) → p .list ≡ l → p .form ≡ Good → length input ≤ 4096 → Reads input (readOf p)
       → (lent built : List ℕ) → 4096 ≤ length lent → (w : Verdict) → Built l 65536 lent built w
       → Written (tableText (take cycle built)) old new r → (cycle ≤ 4096 → r ≤ 40972) → Answers input old new r × (r ≤ 40972)
   unfolding readOf verdictAnswer
   answers-table {old = old} {new = new} {r = r} p pl good li R lent built room w is-built W fits =
       let judged = ap (λ (x : TaskList). verdictOf x 65536) pl ∙ sym e ∙ q in
-      let shown = table-printed lent built room w is-built ∙ ap₂ entries (sym pl) (sym (ap (λ (x : Verdict). verdictAnswer x .cycle) judged)) in (
+      let is-accepted = built-accepted lent built room w is-built in
+      let shown = built-entries l 65536 room is-built cycle jobs task margin is-accepted ∙ ap₂ entries (sym pl) (sym (ap (λ (x : Verdict). verdictAnswer x .cycle) judged)) in (
         record {
           text = _;
           prints = accepted li R (good-is-0 p good) (ap (λ (x : Verdict). verdictAnswer x .number) judged);
           written = subst (λ (t : List ℕ). Written (tableText t) old new r) shown W;
         },
-        fits within,
+        fits (built-within l 65536 room is-built cycle jobs task margin is-accepted),
       )
 
 -- ---- the note

@@ -7,6 +7,7 @@ use lib.ListN.{length, getD}
 use Prim.Native.Char.{code}
 use Prim.Native.String.{String, [] as end, _∷_ as _then_}
 use Rattle.basis.specs.Choose.{choose}
+use Rattle.basis.specs.Sum.{sum}
 
 -- The bytes of a text whose characters are all below 128.
 unfoldable pub ascii : String → List ℕ
@@ -86,3 +87,29 @@ recordsTo table (suc t) = recordsTo table t ++ pairRecord t (getD table t 0)
 -- The header and a record for each slice.
 unfoldable pub tableText : List ℕ → List ℕ
 tableText table = tableHeader ++ recordsTo table (length table)
+
+-- ---- needs
+unfoldable pub needsHeader : List ℕ
+needsHeader = ascii "task,job,need" ++ crlf
+
+-- a job's task, its number, its need
+unfoldable pub needRecord : ℕ → ℕ → ℕ → List ℕ
+needRecord task job need = field task ++ pairRecord job need
+
+-- the records of a task's jobs before job k, numbered from 0; their needs stand from a place on
+unfoldable pub jobRecords : List ℕ → ℕ → ℕ → ℕ → List ℕ
+jobRecords needs task from zero = []
+jobRecords needs task from (suc k) = jobRecords needs task from k ++ needRecord task k (getD needs (from + k) 0)
+
+-- those of the first n tasks, numbered from 1, each of which has so many jobs: all of task 1, then all of task 2, and so on
+unfoldable pub needRecords : List ℕ → (ℕ → ℕ) → ℕ → List ℕ
+needRecords needs jobs zero = []
+needRecords needs jobs (suc i) = needRecords needs jobs i ++ jobRecords needs (suc i) (sum jobs i) (jobs i)
+
+-- The header and a record for each job.
+unfoldable pub needsText : List ℕ → (ℕ → ℕ) → ℕ → List ℕ
+needsText needs jobs n = needsHeader ++ needRecords needs jobs n
+
+-- Where there are none.
+unfoldable pub noText : List ℕ
+noText = ascii "no" ++ crlf

@@ -1,9 +1,10 @@
-// Records by RFC 4180 into a lent buffer: a refusal, why two periods clash, the quick answer, and a table.
+// Records by RFC 4180 into a lent buffer: a refusal, why two periods clash, the quick answer, a table, and needs.
 ghost use mathlib.Core.List.{[], _∷_};
-ghost use lib.ListN.{length, take};
+ghost use lib.ListN.{length, getD, take};
 ghost use mathlib.Core.Path.{_≡_};
-ghost use Prim.Native.Nat.{_≤_, min};
-ghost use Rattle.printing.specs.Text.{decimal, field, signedDecimal, refusalRecord, refusalText, pairRecord, clashText, quickText, recordsTo, tableText};
+ghost use Prim.Native.Nat.{_+_, _^_, _≤_, _<_, min};
+ghost use Rattle.basis.specs.Sum.{sum};
+ghost use Rattle.printing.specs.Text.{decimal, field, signedDecimal, refusalRecord, refusalText, pairRecord, clashText, quickText, recordsTo, tableText, needRecord, jobRecords, needRecords, needsText, noText};
 ghost use Rattle.printing.specs.Written.{Written};
 ghost use Rattle.printing.specs.Shapes.{Room, Put};
 
@@ -102,6 +103,57 @@ fn put_slices(table: &[u8], count: usize, out: &mut [u8], at: usize) -> usize
     next
 }
 
+fn put_need(task: u64, job: u64, need: u64, out: &mut [u8], at: usize) -> usize
+    requires { ⌜ Room (needRecord task job need) at ⌝ }
+    ensures { λ r. ⌜ Put (needRecord task job need) at (now (out .entry)) (now (out .exit)) r ⌝ }
+{
+    let next = put_field(task, out, at);
+    put_pair(job, need, out, next)
+}
+
+// The number at a place, 0 past the end.
+fn number_at(numbers: &[u32], i: usize) -> u32
+    ensures { λ r. ⌜ r ≡ getD (now (numbers .entry)) i 0 ⌝ }
+{
+    if i < numbers.len() { numbers[i] } else { 0 }
+}
+
+// A record for each of the first jobs of a task, numbered from 0.
+fn put_jobs(task: u64, count: u32, needs: &[u32], from: usize, out: &mut [u8], at: usize) -> usize
+    requires { ⌜ Room (jobRecords (now needs) task from count) at ⌝ }
+    requires { ⌜ from + count < 2 ^ 64 ⌝ }
+    ensures { λ r. ⌜ Put (jobRecords (now (needs .entry)) task from count) at (now (out .entry)) (now (out .exit)) r ⌝ }
+{
+    let mut next = at;
+    let mut k: u32 = 0;
+    while k < count {
+        let need = number_at(needs, from + k as usize);
+        let after = put_need(task, k as u64, need as u64, out, next);
+        next = after;
+        k += 1;
+    }
+    next
+}
+
+// A record for each job of the first sixteen tasks, numbered from 1. The needs of a task begin where those of the one before it
+// end.
+fn put_needs(jobs: &[u32], needs: &[u32], out: &mut [u8], at: usize) -> usize
+    requires { ⌜ Room (needRecords (now needs) (λ i. getD (now jobs) i 0) 16) at ⌝ }
+    ensures { λ r. ⌜ Put (needRecords (now (needs .entry)) (λ i. getD (now (jobs .entry)) i 0) 16) at (now (out .entry)) (now (out .exit)) r ⌝ }
+{
+    let mut next = at;
+    let mut from: usize = 0;
+    let mut i: usize = 0;
+    while i < 16 {
+        let count = number_at(jobs, i);
+        let after = put_jobs(i as u64 + 1, count, needs, from, out, next);
+        next = after;
+        from += count as usize;
+        i += 1;
+    }
+    next
+}
+
 fn shorter(a: usize, b: usize) -> usize
     ensures { λ r. ⌜ r ≡ min a b ⌝ }
 {
@@ -144,4 +196,21 @@ pub fn write_table(table: &[u8], cycle: u32, out: &mut [u8]) -> usize
     let next = put_text(b"slice,task\r\n", out, 0);
     let count = shorter(cycle as usize, table.len());
     put_slices(table, count, out, next)
+}
+
+// The needs of a run's jobs, in the log's order, as much of it as there is room for: the header, and a record for each job of
+// the first sixteen tasks, none past the end of their job counts. Answers the length of the whole text.
+pub fn write_needs(jobs: &[u32], needs: &[u32], out: &mut [u8]) -> usize
+    ensures { λ r. ⌜ Written (needsText (now (needs .entry)) (λ i. getD (now (jobs .entry)) i 0) 16) (now (out .entry)) (now (out .exit)) r ⌝ }
+    ensures { λ r. ⌜ (sum (λ i. getD (now (jobs .entry)) i 0) 16 ≤ 4096 → r ≤ 81935) ⌝ }
+{
+    let next = put_text(b"task,job,need\r\n", out, 0);
+    put_needs(jobs, needs, out, next)
+}
+
+// That there are no needs, as much of it as there is room for. Answers the length of the whole text.
+pub fn write_no(out: &mut [u8]) -> usize
+    ensures { λ r. ⌜ Written noText (now (out .entry)) (now (out .exit)) r ⌝ }
+{
+    put_text(b"no\r\n", out, 0)
 }

@@ -1,27 +1,32 @@
 -- Each public contract determines the answer and every lent byte afterwards: any two answers that keep it are equal. Each theorem
 -- names the function whose contract it repeats.
-use mathlib.Core.Path.{_≡_, sym, ap, ap₂, _∙_}
+use mathlib.Core.Path.{_≡_, sym, ap, ap₂, subst, _∙_}
 use mathlib.Core.List.{List}
 use mathlib.Core.Bool.{Bool}
-use mathlib.Core.Logic.{⊎-elim}
-use Prim.Native.Nat.{ℕ, _≤_, _<_}
+use mathlib.Core.Logic.{_⊎_, inl, inr, ⊎-elim}
+use Prim.Native.Nat.{ℕ, zero, suc, _+_, _-_, _≤_, _<_}
+use native.Mathlib.Omega.{arith}
 use lib.Dec.{ltb}
 use lib.IntN.{ℤ}
-use lib.ListN.{take}
-use Rattle.basis.specs.Bytes.{overwrite-same}
-use Rattle.basis.specs.Choose.{choose, le-or-lt}
+use lib.ListN.{length, take, replicate}
+use lib.Seq.{ext-getD}
+use Rattle.basis.specs.Bytes.{at, overwrite-same}
+use Rattle.basis.specs.Choose.{choose, le-or-lt, eq-or-ne}
+use Rattle.basis.specs.Sum.{sum}
 use Rattle.plan.specs.Plan.{Demand, keyIn}
 use Rattle.plan.specs.Order.{one-order}
+use Rattle.needs.specs.Candidate.{one-explanation}
 use Rattle.tasks.specs.declared.TaskList.{TaskList}
 use Rattle.tasks.specs.declared.Bounds.{Bounds}
 use Rattle.tasks.specs.List.{listOf, planOf}
 use Rattle.tasks.specs.Euclid.{lcmOf}
-use Rattle.tasks.specs.Bounds.{boundsOf}
+use Rattle.tasks.specs.Bounds.{boundsOf, cycleOf, jobSum, jobsOf}
 use Rattle.ranking.specs.Ranks.{Ranks}
 use Rattle.quick.specs.declared.Quick.{Quick}
 use Rattle.quick.specs.Quick.{quickOf}
 use Rattle.verdict.specs.declared.Verdict.{Verdict}
 use Rattle.verdict.specs.Verdict.{verdictOf}
+use Rattle.verdict.specs.Answers.{OnTimeAll}
 use Rattle.verdict.specs.Table.{tabled, Built}
 use Rattle.start.specs.declared.Asked.{Asked}
 use Rattle.start.specs.declared.Begun.{Begun}
@@ -43,12 +48,26 @@ use Rattle.units.specs.Conversion.{runtimeSlices, periodSlices}
 use Rattle.records.specs.declared.Parsed.{Parsed}
 use Rattle.records.specs.Grammar.{readOf, Reads}
 use Rattle.records.specs.Reading.{reads-one}
-use Rattle.printing.specs.Text.{refusalText, clashText, quickText, tableText}
+use Rattle.printing.specs.Text.{refusalText, clashText, quickText, tableText, needsText, noText}
 use Rattle.printing.specs.Written.{Written, written-one}
+use Rattle.output.specs.Explain.{ExplainPrints}
+use Rattle.output.specs.Determined.{one-explanation-printed}
 use Rattle.tasks.specs.declared.Task.{Task}
 use Rattle.bench.specs.declared.Driven.{Driven}
 use Rattle.bench.specs.Course.{Course, needIn, SliceClosed, courseAt}
 use Rattle.bench.specs.Drive.{taskIn, begun, Drives}
+use Rattle.vcd.specs.Form.{vcdText}
+use Rattle.vcd.specs.OneRun.{of-one-run}
+use Rattle.vcd.specs.Beginnings.{longest-one}
+use Rattle.dump.specs.Wrote.{Wrote}
+use Rattle.readback.specs.declared.Found.{Found}
+use Rattle.readback.specs.Reads.{Reads as FileReads}
+use Rattle.readback.specs.Determined.{determined as file-determined}
+use Rattle.explain.specs.declared.Viewed.{Viewed}
+use Rattle.explain.specs.Seen.{refusedBy, AfterList, runNumber, checkedOf, NeedsIn, Yes, NoNeeds, Explained, ExplainsRun}
+use Rattle.viewer.specs.Viewer.{shown, Writes, NoForm, Of, ReadsRun, ReadsBack, ExplainsFile}
+use Rattle.promises.specs.Demand3.{jobsIn}
+use Rattle.promises.specs.ViewerHolds.{Passed, ByList, after-list, sound, divides}
 
 -- A contract that is an equation leaves one answer, whatever the function.
 pub one-answer : {A : Type 0} {x r r′ : A} → r ≡ x → r′ ≡ x → r ≡ r′
@@ -171,6 +190,12 @@ pub write-table : (table : List ℕ) (cycle : ℕ) (old new new′ : List ℕ) (
     → Written (tableText (take cycle table)) old new r → Written (tableText (take cycle table)) old new′ r′ → (r ≡ r′) × (new ≡ new′)
 write-table table cycle old new new′ r r′ W W′ = written-one W W′
 
+pub write-needs : (jobs needs old new new′ : List ℕ) (r r′ : ℕ) → Written (needsText needs (at jobs) 16) old new r → Written (needsText needs (at jobs) 16) old new′ r′ → (r ≡ r′) × (new ≡ new′)
+write-needs jobs needs old new new′ r r′ W W′ = written-one W W′
+
+pub write-no : (old new new′ : List ℕ) (r r′ : ℕ) → Written noText old new r → Written noText old new′ r′ → (r ≡ r′) × (new ≡ new′)
+write-no old new new′ r r′ W W′ = written-one W W′
+
 -- bench: task_in; close_slice and drive, with the lent bytes and ends
 pub task-in : (period runtime memory slice tick : ℕ) (r r′ : Task) → r ≡ taskIn period runtime memory slice tick → r′ ≡ taskIn period runtime memory slice tick → r ≡ r′
 task-in period runtime memory slice tick r r′ e e′ = one-answer e e′
@@ -202,3 +227,137 @@ drive l supply asked clock needs table new new′ log log₁ log₂ ends ends₁
       log-same = ap (λ (x : Course). x .log) whole;
       ends-same = ap (λ (x : Course). x .ends) whole;
     }
+
+-- dump: write, with the lent bytes
+pub write-run : (run old new new′ : List ℕ) (r r′ : ℕ) → Wrote (vcdText (take 4096 run)) old new r → Wrote (vcdText (take 4096 run)) old new′ r′ → (r ≡ r′) × (new ≡ new′)
+write-run run old new new′ r r′ W W′ = (one-answer (W .whole) (W′ .whole), one-answer (W .bytes) (W′ .bytes))
+
+-- readback: read, with the lent bytes
+pub read-file : (file old new new′ : List ℕ) (r r′ : Found) → FileReads file old new r → FileReads file old new′ r′ → (r ≡ r′) × (new ≡ new′)
+read-file file old new new′ r r′ R R′ = file-determined file old new new′ r r′ R R′
+
+-- explain: check_run
+pub check-run : (l : TaskList) (supply : ℕ) (run : List ℕ) (r r′ : Viewed) → r ≡ checkedOf l supply run → r′ ≡ checkedOf l supply run → r ≡ r′
+check-run l supply run r r′ e e′ = one-answer e e′
+
+-- A place below a sum lies in one of its parts: each place of the needs is that of a job.
+record PartOf (f : ℕ → ℕ) (n x : ℕ) : Type 0 where
+  part : ℕ
+  place : ℕ
+  below : part < n
+  inside : place < f part
+  is : x ≡ sum f part + place
+
+part-of : (f : ℕ → ℕ) (n x : ℕ) → x < sum f n → PartOf f n x
+unfolding sum
+part-of f zero x lx = absurd (omega arith)
+part-of f (suc n) x lx =
+    ⊎-elim
+    (λ (past : sum f n ≤ x). record { part = n; place = x - sum f n; below = omega arith; inside = omega arith; is = omega arith })
+    (λ (h : x < sum f n).
+    let p = part-of f n x h in
+    record { part = p .part; place = p .place; below = omega (arith, p .below); inside = p .inside; is = p .is })
+    (le-or-lt (sum f n) x)
+
+module _ (l : TaskList) (need need′ : Demand) (old new new′ : List ℕ) where
+  one-needs : ((i k : ℕ) → i < l .count → k < jobsIn l i → need i k ≡ need′ i k) → NeedsIn l need old new → NeedsIn l need′ old new′ → new ≡ new′
+  unfolding jobsOf jobSum planOf
+  one-needs same N N′ =
+      ext-getD 0 new new′ (N .long ∙ sym (N′ .long))
+      (λ x lx.
+      ⊎-elim
+      (λ (past : jobsOf l ≤ x). N .beyond x past ∙ sym (N′ .beyond x past))
+      (λ (h : x < jobsOf l).
+      let p = part-of _ (l .count) x h in
+      ap (at new) (p .is) ∙ N .each (p .part) (p .place) (p .below) (p .inside) ∙ same (p .part) (p .place) (p .below) (p .inside)
+      ∙ sym (ap (at new′) (p .is) ∙ N′ .each (p .part) (p .place) (p .below) (p .inside)))
+      (le-or-lt (jobsOf l) x))
+
+-- What is said of a run of an accepted list is one answer, and one list of needs.
+module _ (l : TaskList) (supply : ℕ) (ok : OnTimeAll l supply (verdictOf l supply)) (run old new new′ : List ℕ) (r r′ : Viewed) where
+  said-one : Yes l run old new r ⊎ NoNeeds l run old new r → Yes l run old new′ r′ ⊎ NoNeeds l run old new′ r′ → (r ≡ r′) × (new ≡ new′)
+  unfolding planOf
+  said-one (inl Y) (inl Y′) = (
+    one-answer (Y .answer) (Y′ .answer),
+    one-needs l (Y .need) (Y′ .need) old new new′
+        (one-explanation (planOf l) (sound l supply ok) (cycleOf l) (divides l supply ok) (ok .on-time) run (Y .need) (Y′ .need) (Y .explains) (Y′ .explains) (Y .just) (Y′ .just)) (Y .needs) (Y′ .needs),
+  )
+  said-one (inl Y) (inr N) = absurd (N .none-lead (Y .need) (Y .explains))
+  said-one (inr N) (inl Y) = absurd (N .none-lead (Y .need) (Y .explains))
+  said-one (inr N) (inr N′) = (one-answer (N .answer) (N′ .answer), one-answer (N .bytes) (N′ .bytes))
+
+  explained-one : Explained l run old new r (cycleOf l) (jobsOf l) → Explained l run old new′ r′ (cycleOf l) (jobsOf l) → (r ≡ r′) × (new ≡ new′)
+  explained-one E E′ =
+      ⊎-elim
+      (λ (z : runNumber (cycleOf l) (l .count) run (jobsOf l) (length old) ≡ 0). said-one (E .said z) (E′ .said z))
+      (λ (nz : runNumber (cycleOf l) (l .count) run (jobsOf l) (length old) ≡ 0 → ⊥).
+      (one-answer (E .refused nz .0) (E′ .refused nz .0), one-answer (E .refused nz .1) (E′ .refused nz .1)))
+      (eq-or-ne (runNumber (cycleOf l) (l .count) run (jobsOf l) (length old)) 0)
+
+-- A call after the list's checks has one answer, and leaves the same, if what comes next does.
+module _ (l : TaskList) (supply : ℕ) (Then Then′ : ℕ → ℕ → Type 0) (old new new′ : List ℕ) (r r′ : Viewed) where
+  after-one : (OnTimeAll l supply (verdictOf l supply) → Then (cycleOf l) (jobsOf l) → Then′ (cycleOf l) (jobsOf l) → (r ≡ r′) × (new ≡ new′))
+      → AfterList (verdictOf l supply) Then old new r → AfterList (verdictOf l supply) Then′ old new′ r′ → (r ≡ r′) × (new ≡ new′)
+  after-one next A A′ = go (after-list l supply Then old new r A) (after-list l supply Then′ old new′ r′ A′)
+    where
+      go : Passed l supply Then ⊎ ByList l supply old new r → Passed l supply Then′ ⊎ ByList l supply old new′ r′ → (r ≡ r′) × (new ≡ new′)
+      go (inl P) (inl P′) = next (P .ok) (P .next) (P′ .next)
+      go (inl P) (inr B) = absurd (B .some (P .accepted))
+      go (inr B) (inl P) = absurd (B .some (P .accepted))
+      go (inr B) (inr B′) = (one-answer (B .answer) (B′ .answer), one-answer (B .bytes) (B′ .bytes))
+
+-- explain: explain_run, with the needs
+pub explain-run : (l : TaskList) (supply : ℕ) (run old new new′ : List ℕ) (r r′ : Viewed) → ExplainsRun l supply run old new r → ExplainsRun l supply run old new′ r′ → (r ≡ r′) × (new ≡ new′)
+unfolding ExplainsRun
+explain-run l supply run old new new′ r r′ = after-one l supply _ _ old new new′ r r′ (λ ok. explained-one l supply ok run old new new′ r r′)
+
+-- viewer: write, with the lent bytes; lent_viewer: write_list; and over the lent list, write_lent
+pub viewer-write : (l : TaskList) (supply : ℕ) (run old new new′ : List ℕ) (r r′ : Viewed) → Writes l supply run old new r → Writes l supply run old new′ r′ → (r ≡ r′) × (new ≡ new′)
+unfolding Writes
+viewer-write l supply run old new new′ r r′ =
+    after-one l supply _ _ old new new′ r r′ (λ ok W W′. let same = one-answer (W .answer) (W′ .answer) in (same, W .bytes ∙ ap (λ (x : Viewed). shown x (at (vcdText run)) old) same ∙ sym (W′ .bytes)))
+
+pub viewer-write-lent : (ts : List Task) (supply : ℕ) (run old new new′ : List ℕ) (r r′ : Viewed)
+    → Writes (listOf ts) supply run old new r → Writes (listOf ts) supply run old new′ r′ → (r ≡ r′) × (new ≡ new′)
+viewer-write-lent ts supply = viewer-write (listOf ts) supply
+
+-- A file has one answer, and leaves the same, if its one run does.
+module _ (file old new new′ : List ℕ) (r r′ : Viewed) (Said Said′ : List ℕ → Type 0) (one : (run : List ℕ) → Said run → Said′ run → (r ≡ r′) × (new ≡ new′)) where
+  file-one : NoForm file old new r ⊎ Of file Said → NoForm file old new′ r′ ⊎ Of file Said′ → (r ≡ r′) × (new ≡ new′)
+  file-one (inl N) (inl N′) = (N .answer ∙ ap (refusedBy 18) (longest-one file (N .place) (N′ .place) (N .longest) (N′ .longest)) ∙ sym (N′ .answer), one-answer (N .bytes) (N′ .bytes))
+  file-one (inl N) (inr O) = absurd (N .none-is (O .run) (O .of-run))
+  file-one (inr O) (inl N) = absurd (N .none-is (O .run) (O .of-run))
+  file-one (inr O) (inr O′) = one (O .run) (O .said) (subst Said′ (of-one-run file (O′ .run) (O .run) (O′ .of-run) (O .of-run)) (O′ .said))
+
+-- viewer: read and explain, with what is lent; lent_viewer: read_list and explain_list; and over the lent list, read_lent and
+-- explain_lent
+pub viewer-read : (l : TaskList) (supply : ℕ) (file old new new′ : List ℕ) (r r′ : Viewed) → ReadsBack l supply file old new r → ReadsBack l supply file old new′ r′ → (r ≡ r′) × (new ≡ new′)
+unfolding ReadsBack
+viewer-read l supply file old new new′ r r′ =
+    after-one l supply _ _ old new new′ r r′
+    (λ ok. file-one file old new new′ r r′ (ReadsRun l old new r (cycleOf l)) (ReadsRun l old new′ r′ (cycleOf l))
+    (λ run R R′. let same = one-answer (R .answer) (R′ .answer) in (same, R .bytes ∙ ap (λ (x : Viewed). shown x (at run) old) same ∙ sym (R′ .bytes))))
+
+pub viewer-read-lent : (ts : List Task) (supply : ℕ) (file old new new′ : List ℕ) (r r′ : Viewed)
+    → ReadsBack (listOf ts) supply file old new r → ReadsBack (listOf ts) supply file old new′ r′ → (r ≡ r′) × (new ≡ new′)
+viewer-read-lent ts supply = viewer-read (listOf ts) supply
+
+pub viewer-explain : (l : TaskList) (supply : ℕ) (file old new new′ : List ℕ) (r r′ : Viewed)
+    → ExplainsFile l supply file old new r → ExplainsFile l supply file old new′ r′ → (r ≡ r′) × (new ≡ new′)
+unfolding ExplainsFile
+viewer-explain l supply file old new new′ r r′ =
+    after-one l supply _ _ old new new′ r r′
+    (λ ok. file-one file old new new′ r r′ (λ run. Explained l run old new r (cycleOf l) (jobsOf l)) (λ run. Explained l run old new′ r′ (cycleOf l) (jobsOf l))
+    (λ run. explained-one l supply ok run old new new′ r r′))
+
+pub viewer-explain-lent : (ts : List Task) (supply : ℕ) (file old new new′ : List ℕ) (r r′ : Viewed)
+    → ExplainsFile (listOf ts) supply file old new r → ExplainsFile (listOf ts) supply file old new′ r′ → (r ≡ r′) × (new ≡ new′)
+viewer-explain-lent ts supply = viewer-explain (listOf ts) supply
+
+-- So whatever two texts the explaining program may print for a list and a file are equal.
+pub explanation-printed : {input file text text′ : List ℕ} → ExplainPrints input file text → ExplainPrints input file text′ → text ≡ text′
+explanation-printed {file = file} = one-explanation-printed (λ l needs needs′ v v′. viewer-explain l 65536 file (replicate 4096 0) needs needs′ v v′)
+
+-- lent: copied
+pub copied : (ts : List Task) (r r′ : TaskList) → r ≡ listOf ts → r′ ≡ listOf ts → r ≡ r′
+copied ts r r′ e e′ = one-answer e e′

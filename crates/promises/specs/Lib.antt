@@ -24,4 +24,6 @@ pub mod Exists
 pub mod Sheet
 pub mod RunOnA
 pub mod Wrong
+pub mod Viewer
+pub mod ViewerHolds
 pub mod Determined

@@ -9,13 +9,18 @@ use borrow.Author.Tests.{le-leb, lt-leb, ne-eqb, eqb-true}
 use Rattle.basis.specs.Choose.{choose, within, is-within, le-or-lt, eq-or-ne}
 use Rattle.readings.specs.declared.Entry.{Entry}
 use Rattle.readings.specs.declared.Entry.the-variants.{Idle, Task, NoEntry}
-use Rattle.readings.specs.declared.Refusal.the-variants.{Bound, Lateness, ShortTable, Run, Program, Conversion, NoRefusal}
+use Rattle.readings.specs.declared.Refusal.{Refusal}
+use Rattle.readings.specs.declared.Refusal.the-variants.{Bound, Lateness, ShortTable, Run, Program, Conversion, Viewer, NoRefusal}
 use Rattle.readings.specs.declared.Logged.the-variants.{NoResult, Done, Over, Late, Damaged}
 use Rattle.readings.specs.Reading.{entryOf, refusalOf, loggedOf, entryByte, refusalNumber, loggedByte}
 
 above : (a b n : ℕ) → b < n → within a b n ≡ false
 unfolding within
 above a b n o = rw (lt-leb n b o, and-false)
+
+below : (a b n : ℕ) → n < a → within a b n ≡ false
+unfolding within
+below a b n o = rw (lt-leb a n o)
 
 -- A choice has the number n, if each of its sides has it that can be taken.
 module _ {A : Type 0} (number : A → ℕ) (n : ℕ) where
@@ -83,13 +88,20 @@ pub reads-refusals : (refusalOf 7 ≡ Lateness) × (refusalOf 8 ≡ ShortTable) 
 unfolding refusalOf choose within
 reads-refusals = (refl, refl, refl)
 
--- past 8, what is left to tell apart
+-- past 8, what is left to tell apart; and past 17
+past-seventeen : ℕ → Refusal
+past-seventeen n = choose (within 18 19 n) (Viewer n) (choose (within 30 31 n) (Viewer n) (NoRefusal n))
+
 past-eight :
     (n : ℕ)
     → 8 < n
-    → refusalOf n ≡ choose (within 9 14 n) (Run n) (choose (within 15 16 n) (Program n) (choose (eqb n 17) Conversion (NoRefusal n)))
-unfolding refusalOf choose
+    → refusalOf n ≡ choose (within 9 14 n) (Run n) (choose (within 15 16 n) (Program n) (choose (eqb n 17) Conversion (past-seventeen n)))
+unfolding refusalOf choose past-seventeen
 past-eight n l = rw (above 1 6 n (omega arith), ne-eqb n 7 (λ e. omega arith), ne-eqb n 8 (λ e. omega arith))
+
+beyond-seventeen : (n : ℕ) → 17 < n → refusalOf n ≡ past-seventeen n
+unfolding choose
+beyond-seventeen n l = rw (past-eight n (omega arith), above 9 14 n (omega arith), above 15 16 n (omega arith), ne-eqb n 17 (λ e. omega arith))
 
 pub reads-run : (n : ℕ) → 9 ≤ n → n ≤ 14 → refusalOf n ≡ Run n
 unfolding choose
@@ -99,11 +111,16 @@ pub reads-program : (n : ℕ) → 15 ≤ n → n ≤ 16 → refusalOf n ≡ Prog
 unfolding choose
 reads-program n l u = rw (past-eight n (omega arith), above 9 14 n l, is-within 15 16 n l u)
 
-pub reads-no-refusal : (n : ℕ) → (n ≡ 0) ⊎ (17 < n) → refusalOf n ≡ NoRefusal n
-unfolding refusalOf choose within
+pub reads-viewer : (n : ℕ) → ((18 ≤ n) × (n ≤ 19)) ⊎ ((30 ≤ n) × (n ≤ 31)) → refusalOf n ≡ Viewer n
+unfolding choose past-seventeen
+reads-viewer n (inl h) = rw (beyond-seventeen n (h .0), is-within 18 19 n (h .0) (h .1))
+reads-viewer n (inr h) = rw (beyond-seventeen n (omega (arith, h .0)), above 18 19 n (omega (arith, h .0)), is-within 30 31 n (h .0) (h .1))
+
+pub reads-no-refusal : (n : ℕ) → (n ≡ 0) ⊎ (((19 < n) × (n < 30)) ⊎ (31 < n)) → refusalOf n ≡ NoRefusal n
+unfolding refusalOf choose within past-seventeen
 reads-no-refusal n (inl e) = rw e
-reads-no-refusal n (inr beyond) =
-    rw (past-eight n (omega arith), above 9 14 n (omega arith), above 15 16 n (omega arith), ne-eqb n 17 (λ e. omega arith))
+reads-no-refusal n (inr (inl h)) = rw (beyond-seventeen n (omega (arith, h .0)), above 18 19 n (h .0), below 30 31 n (h .1))
+reads-no-refusal n (inr (inr h)) = rw (beyond-seventeen n (omega arith), above 18 19 n (omega arith), above 30 31 n h)
 
 pub refusal-number : (n : ℕ) → refusalNumber (refusalOf n) ≡ n
 unfolding refusalOf refusalNumber
@@ -113,7 +130,9 @@ refusal-number n =
     (of-choice refusalNumber n _ _ _ (λ h. sym (eqb-true n 8 h))
     (of-choice refusalNumber n _ _ _ (λ h. refl)
     (of-choice refusalNumber n _ _ _ (λ h. refl)
-    (of-choice refusalNumber n _ _ _ (λ h. sym (eqb-true n 17 h)) refl)))))
+    (of-choice refusalNumber n _ _ _ (λ h. sym (eqb-true n 17 h))
+    (of-choice refusalNumber n _ _ _ (λ h. refl)
+    (of-choice refusalNumber n _ _ _ (λ h. refl) refl)))))))
 
 -- ---- log bytes
 pub reads-results : (loggedOf 0 ≡ NoResult) × (loggedOf 1 ≡ Done) × (loggedOf 2 ≡ Over) × (loggedOf 3 ≡ Late)

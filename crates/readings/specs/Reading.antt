@@ -6,7 +6,7 @@ use Rattle.basis.specs.Choose.{choose, within}
 use Rattle.readings.specs.declared.Entry.{Entry}
 use Rattle.readings.specs.declared.Entry.the-variants.{Idle, Task, NoEntry}
 use Rattle.readings.specs.declared.Refusal.{Refusal}
-use Rattle.readings.specs.declared.Refusal.the-variants.{Bound, Lateness, ShortTable, Run, Program, Conversion, NoRefusal}
+use Rattle.readings.specs.declared.Refusal.the-variants.{Bound, Lateness, ShortTable, Run, Program, Conversion, Viewer, NoRefusal}
 use Rattle.readings.specs.declared.Logged.{Logged}
 use Rattle.readings.specs.declared.Logged.the-variants.{NoResult, Done, Over, Late, Damaged}
 
@@ -18,7 +18,7 @@ entryOf byte count =
     (NoEntry byte))
 
 -- Numbers of refusal: 1 to 6 bound the list, 7 a deadline missed, 8 the table lent is too short, 9 to 14 the run,
--- 15 and 16 the program, 17 the conversion.
+-- 15 and 16 the program, 17 the conversion, 18, 19, 30 and 31 the viewer.
 unfoldable pub refusalOf : ℕ → Refusal
 refusalOf n =
     choose (within 1 6 n) (Bound n)
@@ -27,7 +27,9 @@ refusalOf n =
     (choose (within 9 14 n) (Run n)
     (choose (within 15 16 n) (Program n)
     (choose (eqb n 17) Conversion
-    (NoRefusal n))))))
+    (choose (within 18 19 n) (Viewer n)
+    (choose (within 30 31 n) (Viewer n)
+    (NoRefusal n))))))))
 
 -- The log: 0 no result, 1 done, 2 over, 3 late, any other byte damaged.
 unfoldable pub loggedOf : ℕ → Logged
@@ -51,6 +53,7 @@ refusalNumber ShortTable = 8
 refusalNumber (Run n) = n
 refusalNumber (Program n) = n
 refusalNumber Conversion = 17
+refusalNumber (Viewer n) = n
 refusalNumber (NoRefusal n) = n
 
 unfoldable pub loggedByte : Logged → ℕ

@@ -34,6 +34,7 @@ pub enum Refusal {
     Run(u32),
     Program(u32),
     Conversion,
+    Viewer(u32),
     NoRefusal(u32),
 }
 
@@ -47,6 +48,8 @@ pub fn read_refusal(number: u32) -> Refusal
         9..=14 => Refusal::Run(number),
         15..=16 => Refusal::Program(number),
         17 => Refusal::Conversion,
+        18..=19 => Refusal::Viewer(number),
+        30..=31 => Refusal::Viewer(number),
         _ => Refusal::NoRefusal(number),
     }
 }

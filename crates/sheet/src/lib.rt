@@ -60,6 +60,7 @@ fn say_part(number: u32) {
         Refusal::Run(_) => say(b" (the run)"),
         Refusal::Program(_) => say(b" (the program)"),
         Refusal::Conversion => say(b" (a conversion)"),
+        Refusal::Viewer(_) => say(b" (the viewer)"),
         Refusal::NoRefusal(_) => say(b" (no refusal of ours)"),
     }
 }

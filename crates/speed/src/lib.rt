@@ -2,6 +2,7 @@
 // and promises nothing of its own; what is called behind it has the contracts.
 ghost use Prim.Native.Nat.{_+_, _≤_, _<_};
 ghost use lib.ListN.{length};
+use explain::Viewed;
 use quick::Quick;
 use run::Closed;
 use run::Runner;
@@ -22,6 +23,19 @@ pub struct Answer {
     pub reached: u32,
     pub period: u32,
     pub task: usize,
+}
+
+// What a call of the viewer's comes to, in numbers: refusal number (0: none), margin, clash, task or place of 18; how much was
+// given; and 1 for a no.
+#[repr(C)]
+pub struct Shown {
+    pub number: u32,
+    pub margin: i32,
+    pub reached: u32,
+    pub period: u32,
+    pub task: usize,
+    pub given: usize,
+    pub no: u32,
 }
 
 // How many of a list's tasks are copied.
@@ -296,4 +310,72 @@ pub extern "C" fn speed_steps_by_value(
         p += 1;
     }
     0
+}
+
+// No refusal: so much is given, or no.
+fn not_refused(given: usize, no: u32) -> Shown {
+    Shown {
+        number: 0,
+        margin: 0,
+        reached: 0,
+        period: 0,
+        task: 0,
+        given,
+        no,
+    }
+}
+
+fn of_viewed(viewed: Viewed) -> Shown {
+    match viewed {
+        Viewed::Given(given) => not_refused(given, 0),
+        Viewed::No => not_refused(0, 1),
+        Viewed::Refused {
+            number,
+            task,
+            margin,
+            reached,
+            period,
+        } => Shown {
+            number,
+            margin,
+            reached,
+            period,
+            task,
+            given: 0,
+            no: 0,
+        },
+    }
+}
+
+// A run written as a Value Change Dump.
+#[no_mangle]
+pub extern "C" fn speed_vcd_write(
+    numbers: &[u32],
+    supply: u32,
+    run: &[u8],
+    out: &mut [u8],
+) -> Shown {
+    of_viewed(viewer::write(list_of(numbers), supply, run, out))
+}
+
+// One read back.
+#[no_mangle]
+pub extern "C" fn speed_vcd_read(
+    numbers: &[u32],
+    supply: u32,
+    file: &[u8],
+    out: &mut [u8],
+) -> Shown {
+    of_viewed(viewer::read(list_of(numbers), supply, file, out))
+}
+
+// One explained by needs.
+#[no_mangle]
+pub extern "C" fn speed_vcd_explain(
+    numbers: &[u32],
+    supply: u32,
+    file: &[u8],
+    needs: &mut [u32],
+) -> Shown {
+    of_viewed(viewer::explain(list_of(numbers), supply, file, needs))
 }

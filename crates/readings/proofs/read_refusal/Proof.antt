@@ -4,7 +4,7 @@ use mathlib.Core.Logic.{inl, inr}
 use native.Mathlib.Omega.{arith}
 use Rattle.basis.specs.Choose.{choose, within}
 use Rattle.readings.specs.Reading.{refusalOf}
-use Rattle.readings.specs.Laws.{reads-bound, reads-run, reads-program, reads-no-refusal}
+use Rattle.readings.specs.Laws.{reads-bound, reads-run, reads-program, reads-viewer, reads-no-refusal}
 use Rattle.readings.proofs.read_refusal.Statement.{statement}
 use Rattle.readings.proofs.read_refusal.Tie as tie
 
@@ -30,11 +30,21 @@ returns-6 : tie.Need-returns-6
 returns-6 c = sym (reads-program (c .before .before .before .before .before .args .number) (omega arith) (omega arith))
 
 returns-7 : tie.Need-returns-7
-returns-7 c = sym (reads-no-refusal (c .before .before .args .number) (inl (omega arith)))
+returns-7 c = sym (reads-viewer (c .before .before .before .before .before .before .args .number) (inl (omega arith, omega arith)))
 
 returns-8 : tie.Need-returns-8
-returns-8 c = sym (reads-no-refusal (c .before .before .before .before .before .args .number) (inr (omega arith)))
+returns-8 c = sym (reads-viewer (c .before .before .before .before .before .before .before .before .args .number) (inr (omega arith, omega arith)))
+
+returns-9 : tie.Need-returns-9
+returns-9 c = sym (reads-no-refusal (c .before .before .args .number) (inl (omega arith)))
+
+returns-10 : tie.Need-returns-10
+returns-10 c = sym (reads-no-refusal (c .before .before .before .before .before .before .before .args .number) (inr (inl (omega arith, omega arith))))
+
+returns-11 : tie.Need-returns-11
+returns-11 c = sym (reads-no-refusal (c .before .before .before .before .before .before .before .before .args .number) (inr (inr (omega arith))))
 
 pub read-refusal-spec : {M : Type 1} → statement M
 read-refusal-spec =
-    tie.close (tie.spec returns returns-2 returns-3 returns-4 returns-5 returns-6 returns-7 returns-8)
+    tie.close
+    (tie.spec returns returns-2 returns-3 returns-4 returns-5 returns-6 returns-7 returns-8 returns-9 returns-10 returns-11)

@@ -1,0 +1,4 @@
+-- Laws that the proofs cite.
+pub mod Places
+pub mod Turns
+pub mod Whole

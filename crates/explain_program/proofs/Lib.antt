@@ -1,0 +1,3 @@
+-- How the program prints what it has to.
+pub mod Jobs
+pub mod Ways

@@ -1,0 +1,2 @@
+-- Lists alike show the same.
+pub mod Alike

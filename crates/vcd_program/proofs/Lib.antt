@@ -1,0 +1,2 @@
+-- How the program prints what it has to.
+pub mod Ways
