@@ -17,13 +17,13 @@ use Rattle.plan.specs.Points.{failsAtPoints, fails-at-points, firstWithout}
 use Rattle.tasks.specs.declared.TaskList.{TaskList}
 use Rattle.tasks.specs.declared.Bounds.the-variants.{Kept, Broken}
 use Rattle.tasks.specs.List.{planOf}
-use Rattle.tasks.specs.Bounds.{boundsOf}
-use Rattle.tasks.specs.Kept.{Bounded, plan-sound, plan-monotonic, kept-tells}
+use Rattle.tasks.specs.Bounds.{boundsOf, cycleOf}
+use Rattle.tasks.specs.Kept.{Bounded, plan-sound, plan-monotonic, cycle-pos, period-divides-cycle, kept-tells}
 use Rattle.ranking.specs.Ranks.{Ranks, Shows, ranked-shows}
 use Rattle.quick.specs.declared.Quick.{Quick}
 use Rattle.quick.specs.declared.Quick.the-variants.{Accepted, Refused}
 use Rattle.quick.specs.Quick.{tried, tried-none, tried-late, quickFrom, quickOf}
-use Rattle.quick.specs.Shapes.{levelAsks, Level, NonePasses, PassesAt, FirstFails}
+use Rattle.quick.specs.Shapes.{levelAsks, Level, NonePasses, SomePasses, ComesRound, FirstFails}
 
 -- ---- what a place passes, its task does
 module _ (P : Plan) (sound : Sound P) (order periods dues runtimes : List ℕ) (W : Shows P order periods dues runtimes) where
@@ -45,8 +45,8 @@ module _ (P : Plan) (sound : Sound P) (order periods dues runtimes : List ℕ) (
         sum-before (keyIn P 0) n order (W .ranked 0) (asks P t) k lk,
       )
 
-  place-passes : (k : ℕ) → k < n → PassesAt periods dues runtimes k → failsAtPoints P (at order k) ≡ 0
-  unfolding PassesAt Passes
+  place-passes : (k : ℕ) → k < n → SomePasses periods runtimes (suc k) (at dues k) → failsAtPoints P (at order k) ≡ 0
+  unfolding SomePasses Passes
   place-passes k lk p =
       fails-at-points P sound (at order k) (W .ranked 0 .below k lk) .1
       (p .0, p .1, omega (arith, p .2, W .due-is k lk), omega (arith, p .3, level-is-bound (p .0) k lk))
@@ -118,6 +118,15 @@ module _ (l : TaskList) (bounded : Bounded l) (order periods dues runtimes : Lis
     dues-rise = λ j k a b. omega (arith, W .due-is j (omega arith), W .due-is k b, dues-by-rank j k a b);
   }
 
+  -- and they come round after the list's cycle.
+  pub round : (cycle : ℕ) → cycle ≡ cycleOf l → ComesRound periods (l .count) cycle
+  unfolding planOf
+  round cycle e = record {
+    from-1 = omega (arith, e, cycle-pos l (bounded .supply) (bounded .keeps));
+    to-4096 = omega (arith, e, bounded .keeps .cycle-within);
+    divided = λ k lk. rw (W .period-is k lk, e) (period-divides-cycle l (bounded .supply) (bounded .keeps) (at order k) (task-below k lk));
+  }
+
   pub answer-accepted : FirstFails periods dues runtimes (l .count) (l .count) → Accepted ≡ tried (firstWithout (planOf l))
   unfolding planOf
   answer-accepted F = sym tried-none ∙ ap tried (all-have (planOf l) sound order periods dues runtimes W F)
@@ -133,8 +142,8 @@ module _ (l : TaskList) (supply : ℕ) where
   broken number task reached period e = sym (ap (quickFrom l) e)
 
   module _ (cycle jobs : ℕ) (e : boundsOf l supply ≡ Kept cycle jobs) where
-    pub kept-bounded : Bounded l
-    kept-bounded = record { supply = supply; keeps = kept-tells l supply cycle jobs e .keeps }
+    pub kept-bounded : Bounded l × (cycle ≡ cycleOf l)
+    kept-bounded = let K = kept-tells l supply cycle jobs e in (record { supply = supply; keeps = K .keeps }, K .cycle-is)
 
     pub kept : (r : Quick) → r ≡ tried (firstWithout (planOf l)) → r ≡ quickOf l supply
     unfolding quickOf quickFrom

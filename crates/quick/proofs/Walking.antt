@@ -3,10 +3,10 @@ use mathlib.Core.Path.{_≡_, refl, sym, ap, _∙_}
 use mathlib.Core.Bool.{true, false, _&&_}
 use mathlib.Core.List.{List}
 use mathlib.Core.Logic.{_⊎_, inl, inr, ⊎-elim}
-use Prim.Native.Nat.{ℕ, zero, suc, _+_, _*_, _≤_, _<_, min}
+use Prim.Native.Nat.{ℕ, zero, suc, _+_, _*_, _/_, _≤_, _<_, min}
 use native.Mathlib.Omega.{arith}
 use native.Mathlib.Numerals.{add-one}
-use native.Mathlib.Nat.{mul-le-mul-left, mul-comm}
+use native.Mathlib.Nat.{mul-le-mul-left, mul-le-mul-right, mul-comm, mul-assoc, div-mul-cancel}
 use lib.Dec.{leb, ltb}
 use lib.ListN.{length, set, replicate, length-set, length-replicate}
 use lib.Seq.{getD-set-same, getD-set-other}
@@ -14,9 +14,11 @@ use borrow.Author.Tests.{lt-ltb, ltb-true, leb-true, leb-false}
 use Rattle.basis.specs.Bytes.{at}
 use Rattle.basis.specs.Choose.{both-true, both-false, le-or-lt, below-suc}
 use Rattle.basis.specs.Slices.{ceil, ceil-suc, ceil-covers, ceil-least, ceil-grows, ceil-between}
-use Rattle.basis.specs.Sum.{sum, sum-ext, sum-le, sum-same}
+use Rattle.basis.specs.Sum.{sum, sum-ext, sum-le, sum-same, sum-mul}
 use Rattle.quick.specs.declared.walk.Walk.{Walk}
-use Rattle.quick.specs.Shapes.{inverseOf, multipleFrom, smallest, levelAsks, Level, Fits, Stands, NonePasses, Walks, Begins, Tried, PassesAt, FirstFails}
+use Rattle.quick.specs.declared.walk.Trial.{Trial}
+use Rattle.quick.specs.declared.walk.Trial.the-variants.{Fails, Passes}
+use Rattle.quick.specs.Shapes.{inverseOf, multipleFrom, smallest, levelAsks, Level, ComesRound, Fits, Stands, NonePasses, Walks, Begins, Walked, SomePasses, Tried, FirstFails}
 use Rattle.quick.proofs.Inverse.{multiple-near, inverse-most}
 
 -- ---- one task
@@ -138,6 +140,76 @@ module _ (periods dues runtimes : List ℕ) (n : ℕ) (L : Level periods dues ru
       pub point-rises : w .point < next .point
       point-rises = omega (arith, on .0, on .1, point-from-t periods runtimes n period-pos (w .asked) next S (omega (arith, on .1)))
 
+-- ---- a cycle that is overfull
+module _ (periods runtimes : List ℕ) (n cycle : ℕ) (pos : (k : ℕ) → k < n → 0 < at periods k) (C : ComesRound periods n cycle) where
+  -- By the cycle's end a task has asked for no more, in proportion, than in any number of slices.
+  task-in-proportion : (t k : ℕ) → k < n → at runtimes k * ceil cycle (at periods k) * t ≤ at runtimes k * ceil t (at periods k) * cycle
+  task-in-proportion t k l =
+      let T = at periods k in
+      let q = cycle / T in
+      let whole : q * T ≡ cycle = div-mul-cancel T (C .divided k l) in
+      let jobs : ceil cycle T ≤ q = ceil-least T (pos k l) cycle q (omega arith) in
+      let turned : q * (ceil t T * T) ≡ ceil t T * cycle = mul-comm q (ceil t T * T) ∙ mul-assoc (ceil t T) T q ∙ ap (λ (x : ℕ). ceil t T * x) (mul-comm T q ∙ whole) in
+      let each : ceil cycle T * t ≤ ceil t T * cycle = omega (arith, mul-le-mul-right t jobs, mul-le-mul-left q (ceil-covers T (pos k l) t), turned) in
+      omega (arith, mul-le-mul-left (at runtimes k) each, mul-assoc (at runtimes k) (ceil cycle T) t, mul-assoc (at runtimes k) (ceil t T) cycle)
+
+  level-in-proportion : (t : ℕ) → levelAsks periods runtimes n cycle * t ≤ levelAsks periods runtimes n t * cycle
+  unfolding levelAsks
+  level-in-proportion t = omega (arith, sum-mul (λ k. at runtimes k * ceil cycle (at periods k)) t n, sum-mul (λ k. at runtimes k * ceil t (at periods k)) cycle n, sum-le (λ k. at runtimes k * ceil cycle (at periods k) * t) (λ k. at runtimes k * ceil t (at periods k) * cycle) n (task-in-proportion t))
+
+  -- So where more is asked for than the cycle has, no slice passes.
+  pub overfull : cycle < levelAsks periods runtimes n cycle → (t : ℕ) → NonePasses periods runtimes n t
+  unfolding NonePasses
+  overfull over t x a b =
+      ⊎-elim
+      (λ (h : levelAsks periods runtimes n x ≤ x).
+      absurd (omega (arith, level-in-proportion x, mul-le-mul-right x over, mul-le-mul-right cycle h, mul-comm cycle x)))
+      (λ (h : x < levelAsks periods runtimes n x). h)
+      (le-or-lt (levelAsks periods runtimes n x) x)
+
+-- A deadline that every period of the level divides is such an end too. So where the periods divide each other it decides, or the
+-- cycle's end does, and the walk is never taken.
+pub never-walked : (periods runtimes : List ℕ) (n cycle due : ℕ) → ((k : ℕ) → k < n → 0 < at periods k) → ComesRound periods n due → 1 ≤ cycle → due < levelAsks periods runtimes n due → cycle < levelAsks periods runtimes n cycle
+unfolding NonePasses
+never-walked periods runtimes n cycle due pos D from-1 over = overfull periods runtimes n due pos D over (suc cycle) cycle from-1 (omega arith)
+
+-- ---- the trial of a task
+module _ (periods inverses runtimes : List ℕ) (n due : ℕ) (first : Walk) (B : Begins periods inverses runtimes n due first) where
+  began-pos : (k : ℕ) → k < n → 0 < at periods k
+  began-pos = period-pos periods (B .dues) runtimes n (B .level)
+
+  pub began-fits : (t : ℕ) → 1 ≤ t → t ≤ 4096 → Fits periods inverses runtimes n t
+  began-fits = level-fits periods (B .dues) runtimes n (B .level) inverses (B .inverse-is)
+
+  pub due-from-1 : 1 ≤ due
+  due-from-1 = omega (arith, B .walks .from-1, B .walks .to-due)
+
+  -- Wherever the walk stands: more is asked for than there are slices before the deadline;
+  module _ (w : Walk) (W : Walks periods runtimes n due w) where
+    pub too-much : due < w .asked → Tried periods runtimes n due Fails
+    unfolding Tried NonePasses
+    too-much over x a b = none-before-asked periods runtimes n began-pos (W .slice) w (W .stands) (W .none-passes) x a (omega arith)
+
+    -- or it passes there, at the point or at the deadline.
+    pub in-time : w .asked ≤ due → w .asked ≤ w .point → Tried periods runtimes n due (Passes w)
+    unfolding Tried SomePasses
+    in-time within p =
+        let beyond : W .slice ≤ w .point = point-from-t periods runtimes n began-pos (W .slice) w (W .stands) (omega (arith, W .to-due, B .due-small)) in
+        let asks = same-asked periods runtimes n began-pos (W .slice) w (W .stands) (min (w .point) due) (omega (arith, W .to-due)) (omega arith) in
+        (W, (min (w .point) due, omega (arith, W .from-1, W .to-due), omega arith, omega (arith, asks)))
+
+  pub walked-in-time : (w : Walk) → Walked periods runtimes n due w → w .asked ≤ due → Tried periods runtimes n due (Passes w)
+  walked-in-time w W within = in-time w (W .walks) within (⊎-elim (λ (h : w .asked ≤ w .point). h) (λ (h : due < w .asked). absurd (omega arith)) (W .ends))
+
+  -- The deadline passes: the walk need not go on to it.
+  pub deadline-passes : (w : Walk) → Stands periods runtimes n due w → w .asked ≤ due → Tried periods runtimes n due (Passes first)
+  unfolding Tried SomePasses
+  deadline-passes w S within = (B .walks, (due, due-from-1, omega arith, omega (arith, S .asked-is)))
+
+  pub cycle-overfull : (cycle : ℕ) → ComesRound periods n cycle → (w : Walk) → Stands periods runtimes n cycle w → cycle < w .asked → Tried periods runtimes n due Fails
+  unfolding Tried
+  cycle-overfull cycle C w S over = overfull periods runtimes n cycle began-pos C (omega (arith, S .asked-is)) (suc due)
+
 -- ---- task by task
 -- The tasks before place k pass, and the walk stands no later than at any deadline that is left.
 pub record Trying (periods dues runtimes : List ℕ) (n k : ℕ) (inverses : List ℕ) (w : Walk) : Type 0 where
@@ -149,7 +221,7 @@ pub record Trying (periods dues runtimes : List ℕ) (n k : ℕ) (inverses : Lis
   pub ahead : (j : ℕ) → k ≤ j → j < n → slice ≤ at dues j
   pub stands : Stands periods runtimes k slice w
   pub none-passes : NonePasses periods runtimes k slice
-  pub before-pass : (j : ℕ) → j < k → PassesAt periods dues runtimes j
+  pub before-pass : (j : ℕ) → j < k → SomePasses periods runtimes (suc j) (at dues j)
 
 module _ (periods dues runtimes : List ℕ) (n : ℕ) (L : Level periods dues runtimes n) where
   pub trying-none : Trying periods dues runtimes n 0 (replicate 16 0) (record { point = 8192; asked = 0 })
@@ -175,6 +247,9 @@ module _ (periods dues runtimes : List ℕ) (n : ℕ) (L : Level periods dues ru
     runtime-within = λ k lk. L .runtime-within k (omega arith);
     dues-rise = λ j k a b. L .dues-rise j k a (omega arith);
   }
+
+  pub first-round : (cycle k : ℕ) → k < n → ComesRound periods n cycle → ComesRound periods (k + 1) cycle
+  first-round cycle k l C = record { from-1 = C .from-1; to-4096 = C .to-4096; divided = λ j lj. C .divided j (omega arith) }
 
   module _ (k : ℕ) (inverses : List ℕ) (w : Walk) (S : Trying periods dues runtimes n k inverses w) (lk : k < n) where
     due-within-4096 : at dues k ≤ 4096
@@ -223,47 +298,29 @@ module _ (periods dues runtimes : List ℕ) (n : ℕ) (L : Level periods dues ru
         walks = record { slice = S .slice; from-1 = S .from-1; to-due = slice-within; stands = joins; none-passes = none-yet };
       })
 
-    -- What it tells, once it was tried:
-    module _ (last : Walk) (T : Tried periods runtimes (k + 1) (at dues k) last) where
-      level-pos : (j : ℕ) → j < suc k → 0 < at periods j
-      level-pos j l = period-pos periods dues runtimes n L j (omega arith)
+    -- What its trial tells: it passes, and the next one's turn comes;
+    pub trying-more : (last : Walk) → Tried periods runtimes (k + 1) (at dues k) (Passes last) → Trying periods dues runtimes n (k + 1) (set inverses k (inverseOf (at periods k))) last
+    unfolding Tried
+    trying-more last T = rw (add-one k) (
+        let W : Walks periods runtimes (suc k) (at dues k) last = rw (add-one k) at (T .0) in
+        let passes : SomePasses periods runtimes (suc k) (at dues k) = rw (add-one k) at (T .1) in
+        record {
+          within = lk;
+          room = length-set inverses k (inverseOf (at periods k)) ∙ S .room;
+          inverse-is = one-more;
+          slice = W .slice;
+          from-1 = W .from-1;
+          ahead = λ j a b. omega (arith, W .to-due, L .dues-rise k j (omega arith) b);
+          stands = W .stands;
+          none-passes = W .none-passes;
+          before-pass = λ j l. ⊎-elim (λ (b : j < k). S .before-pass j b) (λ (q : j ≡ k). rw q passes) (below-suc j k l);
+        }
+        )
 
-      W : Walks periods runtimes (suc k) (at dues k) last
-      W = rw (add-one k) at (T .walks)
-
-      -- it passes, at the last point or at its deadline, and the next one's turn comes;
-      passes : last .asked ≤ at dues k → PassesAt periods dues runtimes k
-      unfolding PassesAt
-      passes p =
-          let at-point : last .asked ≤ last .point = ⊎-elim (λ (h : last .asked ≤ last .point). h) (λ (h : at dues k < last .asked). absurd (omega arith)) (T .ends) in
-          let beyond : W .slice ≤ last .point = point-from-t periods runtimes (suc k) level-pos (W .slice) last (W .stands) (omega (arith, W .to-due, due-within-4096)) in (
-            min (last .point) (at dues k),
-            omega (arith, W .from-1, W .to-due),
-            omega arith,
-            omega (arith, same-asked periods runtimes (suc k) level-pos (W .slice) last (W .stands) (min (last .point) (at dues k)) (omega (arith, W .to-due)) (omega arith)),
-          )
-
-      pub trying-more : last .asked ≤ at dues k → Trying periods dues runtimes n (k + 1) (set inverses k (inverseOf (at periods k))) last
-      trying-more p = rw (add-one k) (record {
-        within = lk;
-        room = length-set inverses k (inverseOf (at periods k)) ∙ S .room;
-        inverse-is = one-more;
-        slice = W .slice;
-        from-1 = W .from-1;
-        ahead = λ j a b. omega (arith, W .to-due, L .dues-rise k j (omega arith) b);
-        stands = W .stands;
-        none-passes = W .none-passes;
-        before-pass = λ j l. ⊎-elim (λ (b : j < k). S .before-pass j b) (λ (q : j ≡ k). rw q (passes p)) (below-suc j k l);
-      })
-
-      -- or it is the first that passes nowhere.
-      pub first-found : at dues k < last .asked → FirstFails periods dues runtimes n k
-      unfolding NonePasses
-      first-found f = record {
-        within = omega arith;
-        before-pass = S .before-pass;
-        fails = λ _ x a b. none-before-asked periods runtimes (suc k) level-pos (W .slice) last (W .stands) (W .none-passes) x a (omega arith);
-      }
+    -- or it is the first that passes nowhere.
+    pub first-found : Tried periods runtimes (k + 1) (at dues k) Fails → FirstFails periods dues runtimes n k
+    unfolding Tried
+    first-found T = record { within = omega arith; before-pass = S .before-pass; fails = λ _. rw (add-one k) at T }
 
   pub all-pass : (k : ℕ) (inverses : List ℕ) (w : Walk) → Trying periods dues runtimes n k inverses w → n ≤ k → FirstFails periods dues runtimes n n
   all-pass k inverses w S l = record { within = omega arith; before-pass = λ j b. S .before-pass j (omega (arith, S .within)); fails = λ z. absurd (omega arith) }

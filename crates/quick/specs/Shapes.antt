@@ -3,11 +3,13 @@
 use mathlib.Core.Path.{_≡_}
 use mathlib.Core.List.{List}
 use mathlib.Core.Logic.{_⊎_}
-use Prim.Native.Nat.{ℕ, zero, suc, _*_, _≤_, _<_, min}
+use Prim.Native.Nat.{ℕ, zero, suc, _*_, _≤_, _<_, _∣_, min}
 use Rattle.basis.specs.Bytes.{at}
 use Rattle.basis.specs.Slices.{ceil}
 use Rattle.basis.specs.Sum.{sum}
 use Rattle.quick.specs.declared.walk.Walk.{Walk}
+use Rattle.quick.specs.declared.walk.Trial.{Trial}
+use Rattle.quick.specs.declared.walk.Trial.the-variants.{Fails, Passes}
 
 -- ---- numbers that the walk is about
 -- 2^32 divided by a period, rounded up: the inverse of the period in parts of 2^32.
@@ -35,6 +37,12 @@ pub record Level (periods dues runtimes : List ℕ) (n : ℕ) : Type 0 where
   pub period-small : (k : ℕ) → k < n → at periods k ≤ 4096
   pub runtime-within : (k : ℕ) → k < n → at runtimes k ≤ at periods k
   pub dues-rise : (j k : ℕ) → j ≤ k → k < n → at dues j ≤ at dues k
+
+-- After the cycle the first n tasks come round together: each period divides it.
+pub record ComesRound (periods : List ℕ) (n cycle : ℕ) : Type 0 where
+  pub from-1 : 1 ≤ cycle
+  pub to-4096 : cycle ≤ 4096
+  pub divided : (k : ℕ) → k < n → at periods k ∣ cycle
 
 -- ---- the walk
 -- It stands at the first point from slice t on, with what is asked for by then.
@@ -74,17 +82,22 @@ pub record Begins (periods inverses runtimes : List ℕ) (n due : ℕ) (w : Walk
   pub walks : Walks periods runtimes n due w
 
 -- and it has gone on from there, to a point that passes or to where more is asked for than there are slices.
-pub record Tried (periods runtimes : List ℕ) (n due : ℕ) (w : Walk) : Type 0 where
+pub record Walked (periods runtimes : List ℕ) (n due : ℕ) (w : Walk) : Type 0 where
   pub walks : Walks periods runtimes n due w
   pub ends : (w .asked ≤ w .point) ⊎ (due < w .asked)
 
--- ---- all tasks
--- The task at place k passes at a slice up to its deadline.
-unfoldable pub PassesAt : List ℕ → List ℕ → List ℕ → ℕ → Type 0
-PassesAt periods dues runtimes k = (t : ℕ) × (1 ≤ t) × (t ≤ at dues k) × (levelAsks periods runtimes (suc k) t ≤ t)
+-- The level's last task passes at a slice up to its deadline.
+unfoldable pub SomePasses : List ℕ → List ℕ → ℕ → ℕ → Type 0
+SomePasses periods runtimes n due = (t : ℕ) × (1 ≤ t) × (t ≤ due) × (levelAsks periods runtimes n t ≤ t)
 
+-- What the trial of that task tells: no slice up to the deadline passes; or one does, and the walk still stands where none before it does.
+unfoldable pub Tried : List ℕ → List ℕ → ℕ → ℕ → Trial → Type 0
+Tried periods runtimes n due Fails = NonePasses periods runtimes n (suc due)
+Tried periods runtimes n due (Passes w) = Walks periods runtimes n due w × SomePasses periods runtimes n due
+
+-- ---- all tasks
 -- The first place whose task passes nowhere; n, if there is none.
 pub record FirstFails (periods dues runtimes : List ℕ) (n k : ℕ) : Type 0 where
   pub within : k ≤ n
-  pub before-pass : (j : ℕ) → j < k → PassesAt periods dues runtimes j
+  pub before-pass : (j : ℕ) → j < k → SomePasses periods runtimes (suc j) (at dues j)
   pub fails : k < n → NonePasses periods runtimes (suc k) (suc (at dues k))

@@ -4,6 +4,7 @@ mod walk; // from point to point
 ghost use mathlib.Core.Path.{_≡_};
 ghost use Rattle.plan.specs.Points.{firstWithout};
 ghost use Rattle.tasks.specs.List.{planOf};
+ghost use Rattle.tasks.specs.Bounds.{cycleOf};
 ghost use Rattle.tasks.specs.Kept.{Bounded};
 ghost use Rattle.quick.specs.Quick.{quickOf, tried};
 use tasks::Bounds;
@@ -16,8 +17,8 @@ pub enum Quick {
 }
 
 // A list that keeps all bounds is refused for lateness, or accepted.
-fn try_points(list: TaskList) -> Quick
-    requires { ⌜ Bounded list ⌝ }
+fn try_points(list: TaskList, cycle: u32) -> Quick
+    requires { ⌜ Bounded list × (cycle ≡ cycleOf list) ⌝ }
     ensures { λ r. ⌜ r ≡ tried (firstWithout (planOf list)) ⌝ }
 {
     let mut order = [0usize; 16];
@@ -25,7 +26,7 @@ fn try_points(list: TaskList) -> Quick
     let mut dues = [0u32; 16];
     let mut runtimes = [0u32; 16];
     ranking::by_rank(list, &mut order, &mut periods, &mut dues, &mut runtimes);
-    let place = walk::first_failing(&periods, &dues, &runtimes, list.count);
+    let place = walk::first_failing(&periods, &dues, &runtimes, list.count, cycle);
     if place == list.count {
         return Quick::Accepted;
     }
@@ -41,6 +42,6 @@ pub fn ask(list: TaskList, supply: u32) -> Quick
 {
     match tasks::check_bounds(list, supply) {
         Bounds::Broken { number, task, .. } => Quick::Refused { number, task },
-        Bounds::Kept { .. } => try_points(list),
+        Bounds::Kept { cycle, .. } => try_points(list, cycle),
     }
 }

@@ -1,15 +1,21 @@
 // The walk from point to point over tasks in rank: place k of each array is the k-th task's. The points of a task are the
 // multiples of its period and of those before it, up to its deadline, which is itself one. They are not kept: the next one is
-// the smallest next multiple.
+// the smallest next multiple. Where the last point or the cycle's end decides, no other is looked at.
 ghost use mathlib.Core.Path.{_≡_};
 ghost use Prim.Native.Nat.{ℕ, _≤_, _<_, min};
 ghost use Rattle.basis.specs.Slices.{ceil};
-ghost use Rattle.quick.specs.Shapes.{inverseOf, Level, Fits, Stands, Begins, Tried, FirstFails};
+ghost use Rattle.quick.specs.Shapes.{inverseOf, Level, ComesRound, Fits, Stands, Begins, Walked, Tried, FirstFails};
 
 // A point, and what the tasks of a level ask for by then.
 struct Walk {
     point: u32,
     asked: u32,
+}
+
+// How a task comes out: it passes at none of its points; or it does at one, and here the walk of the next task begins.
+enum Trial {
+    Fails,
+    Passes { walk: Walk },
 }
 
 fn lesser(a: u32, b: u32) -> u32
@@ -58,9 +64,9 @@ fn point_from(
     Walk { point, asked }
 }
 
-// Tries the task at place n - 1 at its points, from the one given on, until one passes or more is asked for than there are slices
+// Goes on from the point given, for the task at place n - 1, until a point passes or more is asked for than there are slices
 // before its deadline. A point before what is asked for by now cannot pass, as no later one asks for less: it is passed over.
-fn try_task(
+fn walk_on(
     periods: &[u32; 16],
     inverses: &[u64; 16],
     runtimes: &[u32; 16],
@@ -69,7 +75,7 @@ fn try_task(
     first: Walk,
 ) -> Walk
     requires { ⌜ Begins (now periods) (now inverses) (now runtimes) n due first ⌝ }
-    ensures { λ r. ⌜ Tried (now (periods .entry)) (now (runtimes .entry)) n due r ⌝ }
+    ensures { λ r. ⌜ Walked (now (periods .entry)) (now (runtimes .entry)) n due r ⌝ }
 {
     let mut point = first.point;
     let mut asked = first.asked;
@@ -81,15 +87,52 @@ fn try_task(
     Walk { point, asked }
 }
 
+// Tries the task at place n - 1: where the walk stands; at its last point, the deadline; then whether the cycle is overfull, for
+// then no slice passes. Only where none of these decides, the walk goes on. Of periods that divide each other, with deadlines at
+// their ends, one always does.
+fn try_task(
+    periods: &[u32; 16],
+    inverses: &[u64; 16],
+    runtimes: &[u32; 16],
+    n: usize,
+    due: u32,
+    cycle: u32,
+    first: Walk,
+) -> Trial
+    requires { ⌜ Begins (now periods) (now inverses) (now runtimes) n due first × ComesRound (now periods) n cycle ⌝ }
+    ensures { λ r. ⌜ Tried (now (periods .entry)) (now (runtimes .entry)) n due r ⌝ }
+{
+    if due < first.asked {
+        return Trial::Fails;
+    }
+    if first.asked <= first.point {
+        return Trial::Passes { walk: first };
+    }
+    let by_deadline = point_from(periods, inverses, runtimes, n, due);
+    if by_deadline.asked <= due {
+        return Trial::Passes { walk: first };
+    }
+    let by_cycle = point_from(periods, inverses, runtimes, n, cycle);
+    if cycle < by_cycle.asked {
+        return Trial::Fails;
+    }
+    let last = walk_on(periods, inverses, runtimes, n, due, first);
+    if due < last.asked {
+        return Trial::Fails;
+    }
+    Trial::Passes { walk: last }
+}
+
 // The first place whose task passes at none of its points; the count, if there is none. A task that ranks after another asks for
-// more in every slice, so that it cannot pass where the other did not: its walk goes on where that one's ended.
+// more in every slice, so that it cannot pass where the other did not: its walk goes on where that one stood last.
 pub(crate) fn first_failing(
     periods: &[u32; 16],
     dues: &[u32; 16],
     runtimes: &[u32; 16],
     count: usize,
+    cycle: u32,
 ) -> usize
-    requires { ⌜ Level (now periods) (now dues) (now runtimes) count ⌝ }
+    requires { ⌜ Level (now periods) (now dues) (now runtimes) count × ComesRound (now periods) count cycle ⌝ }
     ensures { λ r. ⌜ FirstFails (now (periods .entry)) (now (dues .entry)) (now (runtimes .entry)) count r ⌝ }
 {
     let mut inverses = [0u64; 16];
@@ -102,12 +145,19 @@ pub(crate) fn first_failing(
             point: lesser(point, periods[k]),
             asked: asked + runtimes[k],
         };
-        let last = try_task(periods, &inverses, runtimes, k + 1, dues[k], first);
-        if dues[k] < last.asked {
+        let Trial::Passes { walk } = try_task(
+            periods,
+            &inverses,
+            runtimes,
+            k + 1,
+            dues[k],
+            cycle,
+            first,
+        ) else {
             return k;
-        }
-        point = last.point;
-        asked = last.asked;
+        };
+        point = walk.point;
+        asked = walk.asked;
         k += 1;
     }
     count

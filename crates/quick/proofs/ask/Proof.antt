@@ -9,7 +9,7 @@ returns : tie.Need-returns
 returns c = broken _ _ _ _ _ _ (sym (c .before .before .before .check-bounds .ensures) ∙ c .before .number .given .1)
 
 returns-2 : tie.Need-returns-2
-returns-2 c = kept _ _ _ _ (sym (c .before .before .before .check-bounds .ensures) ∙ c .before .enum-told .given .1) _ (c .try-points .ensures)
+returns-2 c = kept _ _ _ _ (sym (c .before .before .before .before .check-bounds .ensures) ∙ c .before .before .cycle .given .1) _ (c .try-points .ensures)
 
 pub ask-spec : {M : Type 1} → statement M
 ask-spec =
@@ -18,6 +18,6 @@ ask-spec =
     (λ c κs. search needs)
     (λ c. search needs)
     (λ c. search needs)
-    (λ c κs. kept-bounded _ _ _ _ (sym (c .before .before .check-bounds .ensures) ∙ c .enum-told .given .1))
+    (λ c κs. kept-bounded _ _ _ _ (sym (c .before .before .before .check-bounds .ensures) ∙ c .before .cycle .given .1))
     returns
     returns-2)

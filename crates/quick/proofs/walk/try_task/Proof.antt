@@ -1,27 +1,45 @@
--- `quick::walk::try_task` meets its contract: no slice before the one where the walk stands passes.
-use Prim.Native.Nat.{_-_}
+-- `quick::walk::try_task` meets its contract: what is asked for where the walk stands, by the deadline or by the cycle's end decides,
+-- or else the walk does.
+use borrow.Author.Needs.{needs}
 use native.Mathlib.Omega.{arith}
-use Rattle.quick.specs.Shapes.{Walks}
-use Rattle.quick.proofs.Walking.{goes-on, stops, asked-fits, walks-on, point-rises}
+use Rattle.quick.proofs.Walking.{began-fits, due-from-1, too-much, in-time, walked-in-time, deadline-passes, cycle-overfull}
 use Rattle.quick.proofs.walk.try_task.Statement.{statement}
 use Rattle.quick.proofs.walk.try_task.Tie as tie
 
-abbrev Inv-loop : tie.InvT-loop
-Inv-loop periods inverses runtimes n due point₀ asked₀ point asked = Walks periods runtimes n due (record { point = point; asked = asked })
+returns : tie.Need-returns
+returns c = too-much _ _ _ _ _ _ (c .before .before .pre .0) _ (c .before .before .pre .0 .walks) (c .if1 .taken)
 
-abbrev μ-loop : tie.MeasureT-loop
-μ-loop periods inverses runtimes n due point₀ asked₀ point asked = due - point
+returns-2 : tie.Need-returns-2
+returns-2 c = in-time _ _ _ _ _ _ (c .before .before .before .before .pre .0) _ (c .before .before .before .before .pre .0 .walks) (c .before .before .if1 .left) (c .if2 .taken)
 
-point-from-requires : tie.Need-point-from-requires Inv-loop μ-loop
-point-from-requires c κs = asked-fits _ _ _ _ (c .before .before .pre .level) _ (c .before .before .pre .due-small) _ (c .before .loop .inv) (goes-on _ _ _ (c .loop-test .taken)) _ (c .before .before .pre .inverse-is)
+point-from-requires : tie.Need-point-from-requires
+point-from-requires c κs = began-fits _ _ _ _ _ _ (c .before .before .before .before .pre .0) _ (due-from-1 _ _ _ _ _ _ (c .before .before .before .before .pre .0)) (c .before .before .before .before .pre .0 .due-small)
 
-loop-again : tie.Need-loop-again Inv-loop μ-loop
-loop-again c = walks-on _ _ _ _ (c .before .before .before .pre .level) _ (c .before .before .before .pre .due-small) _ (c .before .before .loop .inv) (goes-on _ _ _ (c .before .loop-test .taken)) _ (c .point-from .ensures)
+returns-3 : tie.Need-returns-3
+returns-3 c = deadline-passes _ _ _ _ _ _ (c .before .before .before .before .before .before .before .pre .0) _ (c .before .before .point-from .ensures) (c .if3 .taken)
 
-returns : tie.Need-returns Inv-loop μ-loop
-returns c = record { walks = c .before .loop .inv; ends = stops _ _ _ (c .loop-test .left) }
+point-from-requires-2 : tie.Need-point-from-requires-2
+point-from-requires-2 c κs = began-fits _ _ _ _ _ _ (c .before .before .before .before .before .before .before .pre .0) _ (c .before .before .before .before .before .before .before .pre .1 .from-1) (c .before .before .before .before .before .before .before .pre .1 .to-4096)
+
+returns-4 : tie.Need-returns-4
+returns-4 c = cycle-overfull _ _ _ _ _ _ (c .before .before .before .before .before .before .before .before .before .before .pre .0) _ (c .before .before .before .before .before .before .before .before .before .before .pre .1) _ (c .before .before .point-from2 .ensures) (c .if4 .taken)
+
+returns-5 : tie.Need-returns-5
+returns-5 c = too-much _ _ _ _ _ _ (c .before .before .before .before .before .before .before .before .before .before .before .before .before .pre .0) _ (c .before .before .walk-on .ensures .walks) (c .if5 .taken)
+
+returns-6 : tie.Need-returns-6
+returns-6 c = walked-in-time _ _ _ _ _ _ (c .before .before .before .before .before .before .before .before .before .before .before .before .before .pre .0) _ (c .before .before .walk-on .ensures) (c .if5 .left)
 
 pub try-task-spec : {M : Type 1} → statement M
 try-task-spec =
     tie.close
-    (tie.spec Inv-loop μ-loop (λ c. c .pre .walks) point-from-requires (λ c. let on = goes-on (c .before .before .loop .point) (c .before .before .loop .asked) (c .before .before .before .args .due) (c .before .loop-test .taken) in omega (arith, on .0, on .1, point-rises (c .before .before .before .args .periods .now) (c .before .before .before .pre .dues) (c .before .before .before .args .runtimes .now) (c .before .before .before .args .n) (c .before .before .before .pre .level) (c .before .before .before .args .due) (c .before .before .before .pre .due-small) (record { point = c .before .before .loop .point; asked = c .before .before .loop .asked }) (c .before .before .loop .inv) on (c .point-from .result) (c .point-from .ensures))) loop-again returns)
+    (tie.spec
+    returns
+    returns-2
+    point-from-requires
+    returns-3
+    point-from-requires-2
+    returns-4
+    (λ c κs. search needs)
+    returns-5
+    returns-6)
