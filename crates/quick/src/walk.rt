@@ -25,12 +25,12 @@ fn lesser(a: u32, b: u32) -> u32
 }
 
 // Dividing for each task at each point would take most of the time, so it is done once a task: the inverse of a period, in parts
-// of 2^32, rounded up.
+// of 2^32, rounded up. That is one more than what goes into 2^32 - 1, which a division in 32 bits tells.
 fn inverse_of(period: u32) -> u64
     requires { ⌜ 0 < period ⌝ }
     ensures { λ r. ⌜ r ≡ inverseOf period ⌝ }
 {
-    (4294967295 + period as u64) / period as u64
+    (4294967295 / period) as u64 + 1
 }
 
 // The jobs of a task that are released in t slices: t / period, rounded up. That is exact, as the numbers are small.

@@ -10,13 +10,19 @@ pub enum Slices {
     Refused,
 }
 
-// By the share of a slice that the tick leaves. In 64 bits, where the sum cannot wrap.
+// By the share of a slice that the tick leaves: one slice more than the quotient where something is left over. In 32 bits, for the
+// field unit: nothing is added before the division, so nothing wraps.
 fn rounded_up(micros: u32, slice: u32, tick: u32) -> u32
     requires { ⌜ tick < slice ⌝ }
     ensures { λ r. ⌜ r ≡ ceil micros (slice - tick) ⌝ }
 {
-    let share = slice as u64 - tick as u64;
-    ((micros as u64 + (share - 1)) / share) as u32
+    let share = slice - tick;
+    let whole = micros / share;
+    if micros % share == 0 {
+        whole
+    } else {
+        whole + 1
+    }
 }
 
 // The tick handler takes its cost, `tick`, of every slice.
