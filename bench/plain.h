@@ -10,9 +10,9 @@ typedef __SIZE_TYPE__ usize;
 
 enum { MOST_TASKS = 16, MOST_SLICES = 4096 };
 
-// Period and run-time in slices, sample memory in words.
+// Period, run-time and deadline in slices, the deadline counted from the release; sample memory in words.
 struct task {
-    u32 period, runtime, memory;
+    u32 period, runtime, memory, deadline;
 };
 
 // A verdict, a quick answer or a start: refusal number (0: accepted), margin, cycle, job count, for refusal 6 the multiple reached before the
@@ -29,9 +29,9 @@ struct answer {
 
 enum mode { BY_TABLE, FILLING, UNNAMED };
 
-// A task in a run: its period and run-time, the slices that its current job has used, and whether that job has ended.
+// A task in a run: its period, deadline and run-time, the slices that its current job has used, and whether that job has ended.
 struct place {
-    u32 period, runtime, used;
+    u32 period, deadline, runtime, used;
     _Bool ended;
 };
 
@@ -59,7 +59,7 @@ struct viewed {
     u32 no;
 };
 
-// A list from numbers, three a task, as both sides are given it: the first 16 tasks, and how many there are.
+// A list from numbers, four a task, as both sides are given it: the first 16 tasks, and how many there are.
 usize plain_list(const u32 *numbers, usize length, struct task *tasks);
 struct answer plain_judge(const struct task *tasks, usize count, u32 supply);
 struct answer plain_quick(const struct task *tasks, usize count, u32 supply);

@@ -4,6 +4,15 @@
     python3 generate.py --check FILE   makes it again and compares
 
 The same bytes come out every time: the dice are seeded and use whole numbers alone.
+
+Where a deadline stands, all numbers u32 where nothing else is said:
+
+    list (1), quick (18)   of each task: period, run-time, memory, deadline
+    state (11)             293 bytes: count u64, cycle, position, clock, mode u8; for each of the 16 places period,
+                           deadline, run-time; for each of them used, ended u8. Every checksum of a state is of these.
+    conversion (13)        kind u8 (0 run-time, 1 period, 2 deadline), microseconds, slice length, of a run-time the
+                           tick cost; then refusal u8 (0 or 17), slices
+    refusal (15)           20 reads as a bound of the list: case u8 1, number 20
 """
 
 import struct
@@ -24,6 +33,7 @@ TICKS_SEED = 0x071C45EED
 DRIVES_SEED = 0x0D21FE5EED5
 QUICK_SEED = 0x0A5CED5EED
 VIEWER_SEED = 0x0D1A12A35EED
+DUE_SEED = 0x0DEAD11E5EED
 STEPS_WANTED = 202000  # accepted steps in all
 
 # Record tags.
@@ -31,7 +41,7 @@ END, LIST, TABLE_FILL, TABLE_BYTES, TABLE_BYTE, TABLE_LENT, BUILD = range(7)
 LOG_FILL, LOG_LENT, LOG_CHECK, START, STATE, STEP, CONVERSION = range(7, 14)
 ENTRY, REFUSAL, LOGGED, DRIVE, QUICK, WRITE, FILE = range(14, 21)
 
-RUNTIME, PERIOD = range(2)  # kinds of conversion
+RUNTIME, PERIOD, DEADLINE = range(3)  # kinds of conversion
 
 # What the end record counts, in its order.
 COUNTED = {
@@ -40,7 +50,7 @@ COUNTED = {
     "write": WRITE, "file": FILE,
 }
 
-MAGIC = b"SLICES06"
+MAGIC = b"SLICES07"
 ANSWER = "BBiIIII"  # the numbers of model.Answer
 VIEWED = "BIiII"  # those of viewer.Viewed
 SHORT_LOG = 64  # a lent log up to this long is part of every step's checksum
@@ -104,19 +114,22 @@ class Cases:
         self.log, self.log_lent = bytearray(), 0
         self.state = State()
         self.counts = Counter()
+        self.due = False  # whether the list in hand has a deadline other than its period
 
     def put(self, tag, layout="", *numbers):
         self.out += struct.pack("<B" + layout, tag, *numbers)
 
-    def count(self, what, refusal):
+    def count(self, what, refusal, due=False):
+        """Those of lists with deadlines ahead of the period once more by themselves."""
         self.counts[what] += 1
         self.counts[what, refusal] += 1
+        self.counts["due", what, refusal] += due
 
     def put_list(self, tag, tasks, supply):
         assert len(tasks) <= MOST_LIST
         self.put(tag, "II", supply, len(tasks))
         for task in tasks:
-            self.out += struct.pack("<III", *task)
+            self.out += struct.pack("<IIII", *task)
 
     def list(self, tasks, supply):
         self.tasks, self.supply = tuple(tasks), supply
@@ -124,7 +137,10 @@ class Cases:
         answer = model.verdict(self.tasks, supply)
         assert model.quick(self.tasks, supply) == model.without_margin(answer)  # asked here too
         self.out += struct.pack("<" + ANSWER, *answer)
-        self.count("list", answer.refusal)
+        self.due = has_deadlines(tasks)
+        self.count("list", answer.refusal, self.due)
+        for trait in list_traits(self.tasks, supply, answer) if self.due else ():
+            self.counts["list trait", trait] += 1
         if answer.reached:
             self.counts["clash at", answer.task] += 1
             self.counts["clash of several"] += all(task.period != answer.reached for task in tasks)
@@ -156,7 +172,7 @@ class Cases:
         answer = model.build(self.tasks, self.supply, self.table)
         assert self.table[answer.cycle :] == before[answer.cycle :]
         self.put(BUILD, ANSWER + "I", *answer, checksum(self.table))
-        self.count("build", answer.refusal)
+        self.count("build", answer.refusal, self.due)
         return answer
 
     def log_fill(self, length, fill):
@@ -181,9 +197,10 @@ class Cases:
         self.put(START, "BI", mode, clock)
         hashes = checksum(self.state.to_bytes()), checksum(self.log)
         self.out += struct.pack("<" + ANSWER + "II", *answer, *hashes)
-        self.count("start", answer.refusal)
+        self.count("start", answer.refusal, self.due)
         if not answer.refusal:
             self.counts["started in mode", mode] += 1
+            self.counts["due", "started in mode", mode] += self.due
         return answer
 
     def set_state(self, state):
@@ -191,6 +208,8 @@ class Cases:
         self.put(STATE)
         self.out += state.to_bytes()
         self.counts["state"] += 1
+        for trait in state_traits(state):
+            self.counts["state trait", trait] += 1
 
     def step(self, clock, report):
         """Asks who runs, then steps."""
@@ -211,10 +230,12 @@ class Cases:
         )
         for change in changes:
             self.out += struct.pack("<IB", *change)
-        self.count("step", refusal)
+        self.count("step", refusal, has_deadlines(before.places[: before.count]))
         self.counts["who", who_refusal] += 1
         if not refusal:
             self.counts["accepted in mode", before.mode] += 1
+            for trait in step_traits(before, table, task, log):
+                self.counts["step trait", before.mode, trait] += 1
         for _, byte in changes:
             self.counts["log byte", byte] += 1
         return refusal
@@ -232,6 +253,13 @@ class Cases:
     def period(self, microseconds, slice_length):
         given = microseconds, slice_length
         self.conversion(PERIOD, given, model.period_in_slices(*given))
+
+    def deadline(self, microseconds, slice_length):
+        given = microseconds, slice_length
+        answer = model.deadline_in_slices(*given)
+        self.conversion(DEADLINE, given, answer)
+        exact = slice_length and microseconds % slice_length == 0
+        self.counts["deadline converted", answer[0], exact] += 1
 
     def entry(self, byte, count):
         self.put(ENTRY, "BQBI", byte, count, *model.read_entry(byte, count))
@@ -257,7 +285,7 @@ class Cases:
         self.out += struct.pack("<" + ANSWER + ANSWER, *built, *begun)
         self.out += struct.pack("<I", checksum(self.state.to_bytes()))
         self.out += self.table + self.log + struct.pack("<%dI" % length, *ends)
-        self.count("drive", begun.refusal)
+        self.count("drive", begun.refusal, self.due)
         self.counts["driven in mode", mode] += 1
         self.counts["drive built", built.refusal] += 1
         self.counts["whole drives"] += 0 < self.state.position == self.state.cycle
@@ -269,9 +297,10 @@ class Cases:
         assert answer == model.without_margin(model.verdict(tasks, supply))
         self.put_list(QUICK, tasks, supply)
         self.out += struct.pack("<BB", *answer)
-        self.count("quick", answer[0])
+        self.count("quick", answer[0], has_deadlines(tasks))
         for trait in quick_traits(tasks) if answer[0] in (0, 7) else ():
             self.counts["quick trait", trait] += 1
+            self.counts["due", "quick trait", trait] += has_deadlines(tasks)
 
     def put_bytes(self, data):
         assert len(data) <= MOST_FILE
@@ -279,7 +308,7 @@ class Cases:
 
     def put_viewed(self, what, viewed):
         self.out += struct.pack("<" + VIEWED, *viewed)
-        self.count(what, viewed.refusal)
+        self.count(what, viewed.refusal, self.due)
 
     def write(self, run, length, fill):
         """A run of the list in hand, written into so many bytes."""
@@ -315,6 +344,158 @@ class Cases:
         self.put(END, "I" * len(COUNTED), *(self.counts[what] for what in COUNTED))
 
 
+# What is counted of lists, states and steps with deadlines
+
+
+def has_deadlines(tasks):
+    return any(task.deadline != task.period for task in tasks)
+
+
+def out_of_bounds(task):
+    """Which of 3, 4 and 20 the task would meet if it were the only number."""
+    numbers = []
+    if not 1 <= task.period <= LONGEST:
+        numbers.append(3)
+    if not 1 <= task.runtime <= task.period:
+        numbers.append(4)
+    if not task.runtime <= task.deadline <= task.period:
+        numbers.append(20)
+    return numbers
+
+
+# Of refusal 20 what else there was to refuse, and of 3 and 4 that 20 was there too; of others what the deadline does.
+LIST_TRAITS = (
+    "20 below the run-time", "20 above the period", "20 before a later 3", "20 before a later 4",
+    "20 before a later 20", "20 before the memory", "20 before a clash", "20 of a later task than the first",
+    "3 before 20 of one task", "4 before 20 of one task", "3 before a later 20", "4 before a later 20",
+    "2 before 20", "5 with deadlines", "6 with deadlines",
+    "deadline at the run-time", "deadline at the period", "deadline in between",
+    "ranked otherwise than by period", "late, and in time by the period's end",
+    "late, another than by the period's end", "another tightest than by the period's end",
+    "margin tie", "lateness tie of other periods", "accepted with every deadline ahead",
+)
+
+
+def list_traits(tasks, supply, answer):
+    """Which of them a list with deadlines has."""
+    traits, refusal = set(), answer.refusal
+    here, later = tasks[answer.task - 1 : answer.task], tasks[answer.task :]
+    if refusal in (3, 4, 20):
+        for number in (3, 4, 20) if refusal == 20 else (20,):
+            if any(number in out_of_bounds(task)[:1] for task in later):
+                traits.add("%d before a later %d" % (refusal, number))
+        if refusal != 20 and 20 in out_of_bounds(*here):
+            traits.add("%d before 20 of one task" % refusal)
+    if refusal == 20:
+        below = here[0].deadline < here[0].runtime
+        traits.add("20 below the run-time" if below else "20 above the period")
+        if answer.task > 1:
+            traits.add("20 of a later task than the first")
+        if sum(task.memory for task in tasks) > supply:
+            traits.add("20 before the memory")
+        periods = [task.period for task in tasks]
+        if 0 not in periods and common_multiple(periods) > LONGEST:
+            traits.add("20 before a clash")
+    if refusal == 2 and any(20 in out_of_bounds(task) for task in tasks):
+        traits.add("2 before 20")
+    if refusal in (5, 6):
+        traits.add("%d with deadlines" % refusal)
+    if refusal not in (0, 7):
+        return traits
+    for task in tasks:
+        at = "at the run-time" if task.deadline == task.runtime else "in between"
+        traits.add("deadline " + ("at the period" if task.deadline == task.period else at))
+    by_period = [at_period(task) for task in tasks]
+    otherwise = model.verdict(by_period, supply)
+    if model.ranking(tasks) != model.ranking(by_period):
+        traits.add("ranked otherwise than by period")
+    if refusal == 7:
+        if otherwise.refusal == 0:
+            traits.add("late, and in time by the period's end")
+        elif otherwise.task != answer.task:
+            traits.add("late, another than by the period's end")
+        late = first_late(tasks, supply)
+        if len({tasks[job.i].period for job in late}) > 1:
+            traits.add("lateness tie of other periods")
+    else:
+        if otherwise.task != answer.task:
+            traits.add("another tightest than by the period's end")
+        if has_margin_tie(tasks, supply):
+            traits.add("margin tie")
+        if all(task.deadline < task.period for task in tasks):
+            traits.add("accepted with every deadline ahead")
+    return traits
+
+
+STATE_TRAITS = (
+    "deadline below the run-time", "deadline above the period", "open after the deadline",
+    "sound, ended after the deadline", "sound, open just before it", "sound, open at the release after it",
+    "sound, any deadline beyond the count",
+)
+
+
+def state_traits(state):
+    """What the deadlines of a state that is handed in are like: of one that is not sound, the only reason."""
+    if not 1 <= state.count <= 16:
+        return []
+    places, traits = state.places[: state.count], set()
+    for place in places:
+        if place.deadline < place.runtime:
+            traits.add("deadline below the run-time")
+        if place.deadline > place.period:
+            traits.add("deadline above the period")
+        if place.period and not place.ended and state.position % place.period >= place.deadline:
+            traits.add("open after the deadline")
+    if traits:
+        mended = state.copy()
+        for place in mended.places[: state.count]:
+            place.deadline = place.period
+        assert not model.is_sound(state)
+        return traits if len(traits) == 1 and model.is_sound(mended) else []
+    if not model.is_sound(state):
+        return []
+    for place in places:
+        age = state.position % place.period
+        if place.deadline < place.period:
+            if age >= place.deadline:
+                traits.add("sound, ended after the deadline")
+            if age + 1 == place.deadline and not place.ended:
+                traits.add("sound, open just before it")
+            if age == 0 < state.position and not place.ended:
+                traits.add("sound, open at the release after it")
+    if any(not place.runtime <= place.deadline <= place.period for place in state.places[state.count :]):
+        traits.add("sound, any deadline beyond the count")
+    return traits
+
+
+# Of accepted steps, by the table and filling.
+STEP_TRAITS = (
+    "late before the period's end, and closed", "late at the period's end", "ended before its deadline ahead",
+    "idle from its deadline on", "fresh after late ahead", "fresh after in time ahead",
+)
+
+
+def step_traits(before, table, runs, log):
+    """What an accepted step does at deadlines, where some are ahead of the period. The log is as it left it."""
+    traits, places = set(), before.places[: before.count]
+    for i, place in enumerate(places if has_deadlines(places) else []):
+        age = before.position % place.period + 1
+        late = log[model.log_place(before, i)] == model.LATE
+        if place.deadline == place.period:
+            if age == place.period and late:
+                traits.add("late at the period's end")
+            continue
+        if age == place.deadline:
+            late_here = late and not place.ended
+            traits.add("late before the period's end, and closed" if late_here else "ended before its deadline ahead")
+        if age > place.deadline and runs == 0:
+            if before.mode == FILLING or table[before.position] == i + 1:
+                traits.add("idle from its deadline on")
+        if age == place.period:
+            traits.add("fresh after late ahead" if late else "fresh after in time ahead")
+    return traits
+
+
 # Lists
 
 
@@ -336,6 +517,10 @@ def random_tasks(dice, cycle, count, percent):
         share = period * percent * dice.between(50, 150) // (count * 10000)
         tasks.append(Task(period, min(max(share, 1), period), 0))
     return tasks
+
+
+def at_period(task):
+    return task._replace(deadline=task.period)
 
 
 def any_periods(dice, most, count):
@@ -398,27 +583,32 @@ def load_and_cycle(tasks):
     return sum(task.runtime * (cycle // task.period) for task in tasks), cycle
 
 
-def has_margin_tie(tasks):
-    answer = model.verdict(tasks, 0)
+def has_margin_tie(tasks, supply=0):
+    answer = model.verdict(tasks, supply)
     if answer.refusal:
         return False
     _, jobs = model.slice_rule(tasks, answer.cycle)
-    margins = [task.period - row[0].end for task, row in zip(tasks, jobs)]
+    margins = [task.deadline - row[0].end for task, row in zip(tasks, jobs)]
     tied = [i + 1 for i, margin in enumerate(margins) if margin == answer.margin]
     return len(tied) > 1 and tied[0] != answer.task
 
 
-def has_lateness_tie(tasks):
-    refusal, cycle = model.check_bounds(tasks, 0)
+def first_late(tasks, supply=0):
+    """The jobs that miss the earliest deadline that is missed."""
+    refusal, cycle = model.check_bounds(tasks, supply)
     if refusal:
-        return False
+        return []
     _, jobs = model.slice_rule(tasks, cycle)
     missed = [job for row in jobs for job in row if job.received < job.runtime]
     earliest = min([job.deadline for job in missed], default=0)
     late = [job for job in missed if job.deadline == earliest]
-    # Nothing is late before, so these are first jobs (the first is the worst), of one period.
+    # Nothing is late before, so these are first jobs (the first is the worst).
     assert all(job.release == 0 for job in late)
-    return len(late) > 1
+    return late
+
+
+def has_lateness_tie(tasks):
+    return len(first_late(tasks)) > 1
 
 
 def bound_lists():
@@ -496,7 +686,7 @@ def random_lists(dice):
                 {"runtime": period + 1}, {"runtime": dice.roll()}, {"memory": dice.roll()},
                 {"period": 4093}, {"runtime": period},
             ])
-            tasks[i] = tasks[i]._replace(**fault)
+            tasks[i] = at_period(tasks[i]._replace(**fault))
         yield tasks, dice.pick([0, TOP, dice.roll()])
     for _ in range(320):  # lists that just pass and just fail
         cycle = dice.pick(dice.pick([SMALL, SMALL, MIDDLE]))
@@ -730,6 +920,8 @@ def altered(state, **numbers):
 
 
 def placed(state, i, **numbers):
+    """With other numbers at a place; where a period comes without a deadline, that is the deadline too."""
+    numbers.setdefault("deadline", numbers.get("period", state.places[i].deadline))
     other = state.copy()
     for name, number in numbers.items():
         setattr(other.places[i], name, number)
@@ -1011,6 +1203,11 @@ QUICK_TRAITS = (
     "late, and others too", "late, and another before it in the list", "late between equals",
     "late within the load",
 )
+# And with deadlines ahead of the period, beside those.
+DUE_QUICK_TRAITS = (
+    "no point but the deadline", "at the deadline alone, which is no multiple", "at a multiple, not at such a deadline",
+    "ranked otherwise than by period", "late, but for points behind the deadline", "named otherwise than by period",
+)
 
 
 def common_multiple(periods):
@@ -1033,12 +1230,14 @@ def quick_traits(tasks):
     for i, task in enumerate(tasks):
         if passing[i] and len(points[i]) > 2 and passing[i] == points[i][-1:]:
             traits.add("passes at the last of several points")
-        if passing[i] and task.period not in passing[i]:
+        if passing[i] and task.deadline not in passing[i]:
             traits.add("not at the deadline")
             if len(points[i]) > 2 and len(passing[i]) == 1:
                 traits.add("at one inner point alone")
         if passing[i] and model.passing_points(tasks, i, range(1, passing[i][0])):
             traits.add("first at no point")
+    if has_deadlines(tasks):
+        traits |= due_quick_traits(tasks, order, points, passing, late)
     if not late:
         return traits
     named = late[0]
@@ -1050,7 +1249,7 @@ def quick_traits(tasks):
         traits.add("late, and others too")
     if min(late) < named:
         traits.add("late, and another before it in the list")
-    equals = [i for i in range(len(tasks)) if tasks[i].period == tasks[named].period]
+    equals = [i for i in range(len(tasks)) if tasks[i].deadline == tasks[named].deadline]
     if equals[0] < named < equals[-1]:
         traits.add("late between equals")
     cycle = common_multiple([task.period for task in tasks])
@@ -1059,14 +1258,38 @@ def quick_traits(tasks):
     return traits
 
 
-def lists_of_traits(dice, wanted):
+def due_quick_traits(tasks, order, points, passing, late):
+    """Those that deadlines ahead of the period bring."""
+    traits = set()
+    for i, task in enumerate(tasks):
+        if all(task.deadline % tasks[j].period for j in model.summed(tasks, i)):
+            if points[i] == [task.deadline] == passing[i]:
+                traits.add("no point but the deadline")
+            elif passing[i] == [task.deadline]:
+                traits.add("at the deadline alone, which is no multiple")
+            elif passing[i] and task.deadline not in passing[i]:
+                traits.add("at a multiple, not at such a deadline")
+    by_period = [at_period(task) for task in tasks]
+    if order != model.ranking(by_period):
+        traits.add("ranked otherwise than by period")
+    if late:
+        named = tasks[late[0]]
+        if model.passing_points(tasks, late[0], range(named.deadline + 1, named.period + 1)):
+            traits.add("late, but for points behind the deadline")
+        others = [i for i in model.ranking(by_period) if not passing[i]]
+        if others[0] != late[0]:
+            traits.add("named otherwise than by period")
+    return traits
+
+
+def lists_of_traits(dice, wanted, of_traits=QUICK_TRAITS, due=lambda task: task):
     """Lists until each trait has been met so often; each list has one that was still wanted."""
     met = Counter()
-    while any(met[trait] < wanted for trait in QUICK_TRAITS):
+    while any(met[trait] < wanted for trait in of_traits):
         count = dice.between(2, dice.pick([3, 5, 8]))
         short = [t for t in divisors(dice.pick([60, 72, 84, 90, 120, 210, 420])) if 1 < t < 40]
         periods = [dice.pick(short) for _ in range(count)]
-        tasks = [Task(t, dice.between(1, rounded_up(2 * t, count + 1)), 0) for t in periods]
+        tasks = [due(Task(t, dice.between(1, rounded_up(2 * t, count + 1)), 0)) for t in periods]
         traits = [trait for trait in quick_traits(tasks) if met[trait] < wanted]
         met.update(traits)
         if traits:
@@ -1133,7 +1356,7 @@ def quick_lists(dice):
 FILE_TRAITS = (
     "cut short", "unlike in the header", "in a time", "in a value", "behind the end", "every job whole",
     "some job short", "a job with nothing", "a job with too much", "idle while one waits",
-    "another before the first in rank",
+    "another before the first in rank", "a slice behind the deadline",
 )
 
 
@@ -1162,7 +1385,11 @@ def file_traits(tasks, supply, file, explained, needs):
         return ["a job with too much"]
     filled = viewer.filled(tasks, cycle, counted)
     at = next(t for t in range(cycle) if run[t] != filled[t])
-    return ["another before the first in rank" if run[at] else "idle while one waits"]
+    traits = ["another before the first in rank" if run[at] else "idle while one waits"]
+    served = ((t, tasks[entry - 1]) for t, entry in enumerate(run) if entry)
+    if any(t % task.period >= task.deadline for t, task in served):
+        traits.append("a slice behind the deadline")
+    return traits
 
 
 def some_filled(dice, tasks, cycle):
@@ -1398,6 +1625,330 @@ def viewer_cases(cases, dice):
             cases.file(file + b"\n", 4096, dice.below(256), 0)
 
 
+# Deadlines ahead of the period
+
+
+def due_task(dice, task):
+    """At the period, at the run-time, anywhere between, or in the later half."""
+    first, last = task.runtime, task.period
+    middle = dice.between((first + last) // 2, last)
+    deadline = dice.pick([last, first, dice.between(first, last), middle, middle, middle])
+    return task._replace(deadline=deadline)
+
+
+def due_tasks(dice, tasks):
+    return [due_task(dice, task) for task in tasks]
+
+
+def deadline_edge(dice, tasks):
+    """The list with one deadline as near as is accepted, and one slice nearer; or nothing."""
+    i = dice.below(len(tasks))
+
+    def due(deadline):
+        return tasks[:i] + [tasks[i]._replace(deadline=deadline)] + tasks[i + 1 :]
+
+    low, high = tasks[i].runtime - 1, tasks[i].period  # low is not accepted
+    if model.verdict(due(high), 0).refusal:
+        return []
+    while low + 1 < high:
+        middle = (low + high) // 2
+        if model.verdict(due(middle), 0).refusal:
+            low = middle
+        else:
+            high = middle
+    return [due(high), due(low)]
+
+
+def due_bound_lists():
+    """Deadlines at and over their bounds, alone and in the way of other refusals, with the supplies."""
+    lists = [(tasks, 0) for tasks, _, _ in model.DUE]
+    for period, runtimes in ((1, (1,)), (2, (1, 2)), (12, (1, 5, 12)), (4095, (4000,)), (4096, (1, 256, 4096))):
+        for c in runtimes:
+            for deadline in sorted({0, 1, c - 1, c, c + 1, period - 1, period, period + 1, 4096, 4097, 2 ** 31, TOP}):
+                lists.append(([Task(period, c, 0, deadline)], 0))
+                lists.append((bare((12, 1), (6, 1, 3), (period, c, deadline)), TOP))
+    # 3, 4, 20 of one task; then task by task; then memory, and a cycle that is too long.
+    bad = [
+        Task(0, 1, 0, 0), Task(4097, 1, 0, 4098), Task(4, 0, 0, 5), Task(4, 5, 0, 3), Task(4, 2, 0, 1), Task(4, 2, 0, 5),
+        Task(4, 3, 0, 0), Task(4096, 4096, 0, 4095),
+    ]
+    for first in bad:
+        for second in bad:
+            lists.append(([Task(64, 1, 9, 5), first, Task(65, 1, TOP), second], 3))
+            lists.append(([first, second], 0))
+        lists.append(([Task(64, 1, 9, 5), Task(65, 1, TOP, 64), first], TOP))
+        lists.append(([first] * 16, 0))
+        lists += [([first] * 17, 0), ([Task(16, 1, 0, 3)] * 16 + [first], 0), ([first] + [Task(16, 1, 0, 3)] * 17, 0)]
+    lists.append(([Task(16, 1, 1, 2)] * 15 + [Task(16, 2, 1, 1)], 15))
+    # 5 before 6 before 7, all with deadlines.
+    clash = [Task(64, 32, 7, 40), Task(65, 32, 8, 32), Task(3, 2, 1, 2)]
+    lists += [(clash, supply) for supply in (0, 6, 7, 14, 15, 16, TOP)]
+    lists += [(clash[:1] + clash[2:], supply) for supply in (0, 7, 8)]
+    return lists
+
+
+def due_lists(dice):
+    """Random lists with deadlines, with their supplies: from easy to late, just in time and just not, with ties."""
+    for _ in range(300):
+        cycle = dice.pick(dice.pick([SMALL, SMALL, SMALL, MIDDLE]))
+        count = dice.between(1, dice.pick([3, 5, 8, 16]))
+        tasks = random_tasks(dice, cycle, count, dice.between(20, 100))
+        yield with_memory(dice, due_tasks(dice, tasks))
+    for _ in range(40):  # any periods: the cycle is often too long
+        most = dice.pick([6, 10, 20, 70, 100, 1000, LONGEST])
+        yield with_memory(dice, due_tasks(dice, any_periods(dice, most, dice.between(1, 5))))
+    for _ in range(150):  # faults strewn over good lists
+        tasks = due_tasks(dice, random_tasks(dice, dice.pick(SMALL), dice.between(1, 16), 60))
+        for _ in range(dice.between(1, 3)):
+            i = dice.below(len(tasks))
+            period, runtime = tasks[i].period, tasks[i].runtime
+            fault = dice.pick([
+                {"deadline": runtime - 1}, {"deadline": period + 1}, {"deadline": dice.roll()}, {"deadline": 0},
+                {"period": tasks[i].deadline - 1}, {"runtime": tasks[i].deadline + 1}, {"period": 0}, {"runtime": 0},
+                {"memory": dice.roll()}, {"period": 4093},
+            ])
+            tasks[i] = tasks[i]._replace(**fault)
+        yield tasks, dice.pick([0, TOP, dice.roll()])
+    for _ in range(200):
+        cycle = dice.pick(dice.pick([SMALL, SMALL, MIDDLE]))
+        tasks = due_tasks(dice, random_tasks(dice, cycle, dice.between(1, 6), dice.between(20, 70)))
+        for edge in dice.pick([edge_pair, deadline_edge, deadline_edge])(dice, tasks):
+            yield edge, 0
+    for wanted in ("margin tie", "lateness tie of other periods", "another tightest than by the period's end"):
+        found = 0
+        while found < 60:
+            count = dice.between(2, 6)
+            tasks = random_tasks(dice, dice.pick(SMALL), count, dice.between(30, 120))
+            tasks = due_tasks(dice, tasks)
+            if has_deadlines(tasks) and wanted in list_traits(tasks, 0, model.verdict(tasks, 0)):
+                found += 1
+                yield tasks, 0
+
+
+def delayed(dice, table, cycle):
+    """A table that comes some slices late, so that jobs are late at deadlines ahead of the period."""
+    late = dice.between(1, 1 + cycle // 3)
+    return bytes(dice.below(2) * table[0] for _ in range(late)) + bytes(table[: cycle - late])
+
+
+def due_runs(cases, dice, cycle, tables):
+    """Runs of the list in hand: by the table, filling or with none named, and by a table that is not its own."""
+    run(cases, dice, dice.pick([TABLE, TABLE, NONE_NAMED]), True)
+    own = bytes(cases.table)
+    if dice.one_in(3):
+        cases.table_bytes(b"")
+    run(cases, dice, FILLING, True)
+    foreign = foreign_table(dice, len(cases.tasks), cycle, tables)
+    cases.table_bytes(dice.pick([delayed(dice, own, cycle), delayed(dice, own, cycle), foreign]))
+    run(cases, dice, dice.pick([TABLE, TABLE, NONE_NAMED]), False)
+    if len(tables) < 200 and cycle <= 60:
+        tables.append(own[:cycle])
+
+
+def closed_where_due(state):
+    """The jobs that are past their deadlines are closed."""
+    for place in state.places[: state.count]:
+        place.ended = place.ended or state.position % place.period >= place.deadline
+    return state
+
+
+def due_states(dice, state):
+    """Deadlines below, at and above their bounds, and positions about a deadline and the release after it."""
+    n, cycle = state.count, state.cycle
+    for i in sorted({0, n - 1, dice.below(n)}):
+        here = state.places[i]
+        for deadline in (0, here.runtime - 1, here.runtime, here.period - 1, here.period, here.period + 1, 4096, TOP):
+            yield placed(state, i, deadline=deadline)
+            yield placed(state, i, deadline=deadline, used=0, ended=True)
+        yield placed(state, i, runtime=here.deadline + 1, used=0)
+        yield placed(state, i, period=cycle, deadline=here.deadline)
+        yield placed(state, i, period=1, deadline=here.deadline)
+        release = here.period * dice.below(cycle // here.period)
+        for age in (0, here.deadline - 1, here.deadline, here.period - 1, here.period):
+            there = closed_where_due(altered(state, position=release + age))
+            for used, ended in ((0, False), (0, True), (here.runtime - 1, False), (here.runtime, True)):
+                yield placed(there, i, used=used, ended=ended)
+    yield closed_where_due(altered(state, mode=1 - state.mode))
+    if n < 16:  # beyond the task count: not looked at, and handed on
+        yield placed(state, n, period=3, deadline=9, runtime=5, used=1, ended=False)
+        yield placed(state, 15, period=0, deadline=TOP, runtime=1, used=0, ended=False)
+
+
+def due_damaged_runs(cases, dice, accepted):
+    """Runs of lists with deadlines broken off, such states handed in, and the runs taken up again."""
+    for _ in range(7):
+        answer = list_and_builds(cases, dice, dice.pick(accepted), 0)
+        run(cases, dice, dice.below(3), True, stop_at=dice.below(answer.cycle))
+        kept = cases.state
+        for state in due_states(dice, kept):
+            cases.set_state(state)
+            if dice.one_in(6):
+                faulty_call(cases, dice, dice.below(2))
+            else:
+                cases.step(next_reading(state), dice.pick([0, 0, 0, 1]))
+        cases.set_state(kept)
+        while cases.state.position < cases.state.cycle:
+            cases.step(next_reading(cases.state), 0)
+        if len(cases.log) > SHORT_LOG:
+            cases.log_check()
+
+
+def due_made_up_state(dice, cycle):
+    """A sound state with deadlines that perhaps no run leads to."""
+    state = made_up_state(dice, cycle)
+    for i, place in enumerate(state.places):
+        if i < state.count:
+            place.deadline = due_task(dice, Task(place.period, place.runtime, 0)).deadline
+        elif dice.one_in(2):
+            place.deadline = dice.roll()
+    assert model.is_sound(closed_where_due(state))
+    return state
+
+
+def due_made_up_runs(cases, dice):
+    """Taken up where more is open than can be in time, so that filling runs are late too."""
+    for _ in range(200):
+        cycle = dice.pick([n for n in SMALL if n >= 12])
+        state = due_made_up_state(dice, cycle)
+        cases.table_bytes(foreign_table(dice, state.count, cycle, []))
+        cases.log_fill(model.job_count(state) + dice.below(3), dice.below(256))
+        cases.set_state(state)
+        for _ in range(40):
+            if dice.one_in(20):
+                faulty_call(cases, dice, dice.below(2))
+            else:
+                idle = model.who(cases.state, cases.table)[1] == 0
+                cases.step(next_reading(cases.state), 0 if idle else dice.pick([0, 0, 1]))
+            if cases.state.position == cycle:
+                break
+        if len(cases.log) > SHORT_LOG:
+            cases.log_check()
+
+
+def due_accepted(dice, cycles, count, percents):
+    """An accepted list with deadlines ahead of the period."""
+    while True:
+        tasks = due_tasks(dice, random_tasks(dice, dice.pick(cycles), dice.between(*count), dice.between(*percents)))
+        if has_deadlines(tasks) and model.verdict(tasks, 0).refusal == 0:
+            return tasks
+
+
+def due_full_size(dice):
+    """16 tasks, a cycle of 4,096 or near it, deadlines ahead of the period."""
+    while True:
+        tasks = due_accepted(dice, [4032, 4095, 4096], (16, 16), (50, 70))
+        if model.verdict(tasks, 0).cycle >= 4032:
+            return tasks
+
+
+def due_drives(cases, dice):
+    modes = (TABLE, FILLING, NONE_NAMED)
+    lists = [tasks for tasks, _, _ in model.DUE] + [due_accepted(dice, SMALL, (1, 9), (30, 90)) for _ in range(36)]
+    for tasks in lists:
+        answer = cases.list(tasks, 0)
+        for mode in dice.shuffled(modes)[:2]:
+            if answer.refusal:
+                drive(cases, dice, mode, dice.below(20), dice.below(20), [1, 2], dice.below(9))
+            else:
+                whole_drive(cases, dice, mode, answer, some_needs(dice, tasks, answer.cycle))
+                odd_drive(cases, dice, mode, answer, some_needs(dice, tasks, answer.cycle))
+    tasks = due_full_size(dice)
+    answer = cases.list(tasks, 0)
+    whole_drive(cases, dice, TABLE, answer, some_needs(dice, tasks, answer.cycle))
+
+
+def due_quick_lists(dice):
+    """Lists with deadlines of every kind, with their supplies."""
+    yield from due_bound_lists()
+    for tasks, _, _ in model.DUE:
+        yield tasks[::-1], 0
+    for tasks in bench_lists():
+        yield due_tasks(dice, tasks), sheets.SUPPLY
+    every = QUICK_TRAITS + DUE_QUICK_TRAITS
+    for tasks in lists_of_traits(dice, 120, every, lambda task: due_task(dice, task)):
+        yield tasks, 0
+    for _ in range(120):  # lists that just pass and just fail
+        tasks = due_tasks(dice, random_tasks(dice, dice.pick(SMALL), dice.between(2, 8), dice.between(20, 70)))
+        for edge in dice.pick([edge_pair, deadline_edge])(dice, tasks):
+            yield edge, 0
+    for _ in range(3):
+        yield due_full_size(dice), 0
+
+
+def behind_the_deadline(dice, tasks, run):
+    """The run with the last slice of a job moved behind its deadline, or the run itself where there is no room."""
+    moves = []
+    for number, task in enumerate(tasks, 1):
+        for release in range(0, len(run), task.period):
+            due, end = release + task.deadline, release + task.period
+            had = [t for t in range(release, due) if run[t] == number]
+            moves += [(had[-1], t) for t in range(due, end) if had and run[t] == 0]
+    run = list(run)
+    if moves:
+        old, new = dice.pick(moves)
+        run[old], run[new] = run[new], run[old]
+    return run
+
+
+def due_viewer_cases(cases, dice):
+    """Written, read back and explained with deadlines; and lists refused by 20, whatever the run and the file."""
+    for tasks, supply in (case for case in due_bound_lists() if model.verdict(*case).refusal == 20):
+        if dice.one_in(8):
+            cases.list(tasks, supply)
+            cases.write(any_run(dice), dice.pick([0, 300]), dice.below(256))
+            good = text([dice.below(17) for _ in range(dice.between(1, 5))])
+            for file in (good, good[: dice.below(len(good))]):
+                cases.file(file, dice.pick([0, 20]), dice.below(256), dice.pick([0, 20]))
+    lists = [tasks for tasks, answer, _ in model.DUE if not answer.refusal]
+    lists += [due_accepted(dice, [8, 12, 12, 16, 20, 24], (1, 4), (40, 90)) for _ in range(14)]
+    for tasks in lists:
+        answer = cases.list(tasks, 0)
+        written_runs(cases, dice, tasks, answer.cycle)
+        seen_runs(cases, dice, tasks, answer.cycle, answer.jobs)
+        for _ in range(4):
+            run = dice.pick([model.plan(tasks, 0)[1], some_filled(dice, tasks, answer.cycle)])
+            view(cases, dice, text(behind_the_deadline(dice, tasks, run)))
+    for tasks in (bare((4, 2, 2)), bare((4, 2, 3)), bare((3, 1), (3, 1, 1)), bare((4, 1), (2, 1, 1)), bare((2, 1), (4, 1, 1))):
+        cycle = cases.list(tasks, 0).cycle
+        for number in range((len(tasks) + 1) ** cycle):
+            run = [number // (len(tasks) + 1) ** t % (len(tasks) + 1) for t in range(cycle)]
+            view(cases, dice, text(run))
+
+
+def due_conversions(cases, dice):
+    for microseconds in MICROS:
+        for slice_length in MICROS:
+            cases.deadline(microseconds, slice_length)
+    for _ in range(250):
+        slice_length = 1 + dice.below(dice.pick([10, 1000, 2 ** 20, TOP]))
+        for microseconds in about_whole(dice, slice_length):
+            cases.deadline(microseconds, slice_length)
+
+
+def due_cases(cases, dice):
+    due_conversions(cases, dice)
+    tables, accepted = [], []
+    for tasks, supply in due_bound_lists():
+        answer = list_and_builds(cases, dice, tasks, supply)
+        if dice.one_in(2):
+            refused_start(cases, dice, answer)
+    for tasks, supply in due_lists(dice):
+        answer = list_and_builds(cases, dice, tasks, supply)
+        if dice.one_in(4):
+            refused_start(cases, dice, answer)
+        if answer.refusal == 0 and answer.cycle < 100 and has_deadlines(tasks):
+            accepted.append([task._replace(memory=0) for task in tasks])
+            due_runs(cases, dice, answer.cycle, tables)
+    due_damaged_runs(cases, dice, accepted)
+    due_made_up_runs(cases, dice)
+    list_and_builds(cases, dice, due_full_size(dice), 0)
+    run(cases, dice, FILLING, True)
+    due_drives(cases, dice)
+    for tasks, supply in due_quick_lists(dice):
+        cases.quick(tasks, supply)
+    due_viewer_cases(cases, dice)
+
+
 def all_cases():
     dice, cases = Dice(SEED), Cases()
     conversions(cases, dice)
@@ -1433,6 +1984,7 @@ def all_cases():
     for tasks, supply in quick_lists(Dice(QUICK_SEED)):
         cases.quick(tasks, supply)
     viewer_cases(cases, Dice(VIEWER_SEED))
+    due_cases(cases, Dice(DUE_SEED))
     cases.end()
     assert all_there(cases)
     return cases
@@ -1441,14 +1993,14 @@ def all_cases():
 def all_there(cases):
     """Nothing the file is meant to hold is missing from it."""
     for what, refusals in (
-        ("list", range(8)), ("build", range(9)), ("start", (0, 1, 2, 3, 4, 5, 6, 7, 12)),
+        ("list", (*range(8), 20)), ("build", (*range(9), 20)), ("start", (0, 1, 2, 3, 4, 5, 6, 7, 12, 20)),
         ("step", (0, 9, 10, 11, 12, 13, 14)), ("conversion", (0, 17)), ("log byte", (1, 2, 3)),
         ("started in mode", (TABLE, FILLING, NONE_NAMED)), ("accepted in mode", (TABLE, FILLING)),
         ("entry", range(3)), ("refusal", range(7)), ("logged", range(5)),
-        ("drive", (0, 3, 4, 5, 6, 7, 12)), ("drive built", (0, 8)),
+        ("drive", (0, 3, 4, 5, 6, 7, 12, 20)), ("drive built", (0, 8, 20)),
         ("driven in mode", (TABLE, FILLING, NONE_NAMED)), ("clash at", range(2, 17)),
-        ("quick", range(8)), ("write", (*range(8), 19, 30, 31)),
-        ("read", (*range(8), 18, 19, 30, 31)), ("explain", (*range(8), 18, 19, 30, 31, viewer.NO)),
+        ("quick", (*range(8), 20)), ("write", (*range(8), 19, 20, 30, 31)),
+        ("read", (*range(8), 18, 19, 20, 30, 31)), ("explain", (*range(8), 18, 19, 20, 30, 31, viewer.NO)),
     ):
         for refusal in refusals:
             assert cases.counts[what, refusal], (what, refusal)
@@ -1456,7 +2008,27 @@ def all_there(cases):
     assert cases.counts["whole drives"] >= 100 and cases.counts["clash of several"] >= 30
     assert all(cases.counts["quick trait", trait] >= 250 for trait in QUICK_TRAITS)
     assert all(cases.counts["file trait", trait] >= 20 for trait in FILE_TRAITS)
+    assert deadlines_there(cases.counts)
+    assert len(cases.out) < 8000000
     return cases.counts["list"] >= 2000 and cases.counts["step"] >= 200000
+
+
+def deadlines_there(counts):
+    """The same of what has deadlines ahead of the period."""
+    for what, numbers, enough in (
+        ("list", (0, 7, 20), 100), ("list", (2, 3, 4, 5, 6), 20), ("build", (0, 7, 8, 20), 100), ("start", (0, 12, 20), 50),
+        ("started in mode", (TABLE, FILLING, NONE_NAMED), 100), ("step", (0,), 30000), ("step", (9, 10, 11, 12, 13, 14), 100),
+        ("drive", (0, 7, 20), 5), ("drive", (12,), 1), ("quick", (0, 7, 20), 100), ("write", (0, 19, 20, 30, 31), 15),
+        ("read", (0, 19, 20, 31), 15), ("read", (30,), 5), ("explain", (0, viewer.NO), 100),
+    ):
+        for number in numbers:
+            assert counts["due", what, number] >= enough, (what, number)
+    assert all(counts["list trait", trait] >= 20 for trait in LIST_TRAITS)
+    assert all(counts["state trait", trait] >= 50 for trait in STATE_TRAITS)
+    assert all(counts["step trait", mode, trait] >= 200 for mode in (TABLE, FILLING) for trait in STEP_TRAITS)
+    assert all(counts["due", "quick trait", trait] >= 100 for trait in QUICK_TRAITS + DUE_QUICK_TRAITS)
+    converted = [(0, True), (0, False), (17, 0)]
+    return all(counts["deadline converted", refusal, exact] >= 16 for refusal, exact in converted)
 
 
 def report(cases):
@@ -1485,6 +2057,25 @@ def report(cases):
         print("quick questions, %s: %d" % (trait, cases.counts["quick trait", trait]))
     for trait in FILE_TRAITS:
         print("files, %s: %d" % (trait, cases.counts["file trait", trait]))
+    report_deadlines(cases.counts)
+
+
+def report_deadlines(counts):
+    print("of these with deadlines ahead of the period:")
+    for what in ("list", "build", "start", "step", "drive", "quick", "write", "read", "explain"):
+        parts = ["%d: %d" % (r, counts["due", what, r]) for r in range(256) if counts["due", what, r]]
+        print("%s, by refusal %s" % (what, ", ".join(parts)))
+    for trait in LIST_TRAITS:
+        print("lists, %s: %d" % (trait, counts["list trait", trait]))
+    for trait in STATE_TRAITS:
+        print("states, %s: %d" % (trait, counts["state trait", trait]))
+    for trait in STEP_TRAITS:
+        both = tuple(counts["step trait", mode, trait] for mode in (TABLE, FILLING))
+        print("steps, %s: by the table %d, filling %d" % (trait, *both))
+    for trait in QUICK_TRAITS + DUE_QUICK_TRAITS:
+        print("quick questions, %s: %d" % (trait, counts["due", "quick trait", trait]))
+    print("deadlines converted: exactly %d, rounded down %d, refused %d" % tuple(
+        counts["deadline converted", refusal, exact] for refusal, exact in ((0, True), (0, False), (17, 0))))
 
 
 def main(arguments):

@@ -18,7 +18,7 @@ import viewer
 
 SUPPLY = 65536
 FIELD = rb"(0|[1-9][0-9]{0,8})"
-LINE = re.compile(FIELD + b"," + FIELD + b"," + FIELD + rb"\Z")
+LINE = re.compile(FIELD + b"," + FIELD + b"," + FIELD + b"(?:," + FIELD + rb")?\Z")
 
 
 def read(data):
@@ -33,7 +33,7 @@ def read(data):
         match = LINE.match(line)
         if not match:
             return (15, number), []
-        tasks.append(model.Task(*(int(field) for field in match.groups())))
+        tasks.append(model.Task(*(int(field) for field in match.groups() if field is not None)))
     return None, tasks
 
 

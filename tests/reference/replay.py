@@ -57,7 +57,7 @@ class Replay:
 
     def take_list(self):
         supply, count = self.take("II")
-        return supply, tuple(model.Task(*self.take("III")) for _ in range(count))
+        return supply, tuple(model.Task(*self.take("IIII")) for _ in range(count))
 
     def read_list(self):
         self.supply, self.tasks = self.take_list()
@@ -128,8 +128,8 @@ class Replay:
 
     def read_conversion(self):
         kind, = self.take("B")
-        convert = (model.runtime_in_slices, model.period_in_slices)[kind]
-        given = self.take(("III", "II")[kind])
+        convert = (model.runtime_in_slices, model.period_in_slices, model.deadline_in_slices)[kind]
+        given = self.take(("III", "II", "II")[kind])
         self.compare(self.take("BI"), convert(*given))
         return (kind, *given)
 
@@ -195,13 +195,13 @@ class Replay:
 
 
 def show(replay, tag, given, state):
-    tasks = " ".join("(%d,%d,%d)" % task for task in replay.tasks)
+    tasks = " ".join("(%d,%d,%d,%d)" % task for task in replay.tasks)
     print("list: %s supply %d" % (tasks, replay.supply))
     print("state before: count %d cycle %d position %d clock %d mode %d" % (
         state.count, state.cycle, state.position, state.clock, state.mode))
     for i, place in enumerate(state.places, 1):
-        print("  task %d: period %d run-time %d used %d ended %d" % (
-            i, place.period, place.runtime, place.used, place.ended))
+        print("  task %d: period %d deadline %d run-time %d used %d ended %d" % (
+            i, place.period, place.deadline, place.runtime, place.used, place.ended))
     print("table lent %d: %s" % (replay.table_lent, list(replay.table)))
     print("log lent %d, after: %s" % (replay.log_lent, list(replay.log)))
     print("record %d, %s, given %s, expected %s" % (

@@ -40,11 +40,12 @@ def sheet(name):
     tasks = example(name)
     for task, (period, runtime) in zip(tasks, micros):
         assert model.period_in_slices(period, SLICE) == (0, task.period)
+        assert model.deadline_in_slices(period, SLICE) == (0, task.deadline)  # the end of the period
         assert model.runtime_in_slices(runtime, SLICE, TICK) == (0, task.runtime)
     answer = model.verdict(tasks, SUPPLY)
     assert answer.refusal == 0
     # memory decides nothing but refusal 5, and the model's drive has no supply
-    log, ends = model.drive(model.bare(*((t.period, t.runtime) for t in tasks)), model.NONE_NAMED, needs)
+    log, ends = model.drive([task._replace(memory=0) for task in tasks], model.NONE_NAMED, needs)
     lines = [
         "%s: 5 tasks in slices of %d microseconds, tick cost %d" % (name, SLICE, TICK),
         "cycle %d, jobs %d; tightest task %d %s, margin %d"
@@ -66,7 +67,7 @@ def accepted_with(name, tick_cost):
 
 
 def slower(task, times):
-    return task._replace(period=times * task.period)
+    return model.Task(times * task.period, task.runtime, task.memory, times * task.deadline)
 
 
 def other_numbers():
@@ -79,12 +80,12 @@ def other_numbers():
     link_watch = NAMES.index("link watch")
     half = [slower(task, 1 if i % len(NAMES) == link_watch else 2) for i, task in enumerate(both)]
     assert model.verdict(half, SUPPLY) == model.refused(7, 3, -1)
-    half[6] = half[6]._replace(period=40)
+    half[6] = half[6]._replace(period=40, deadline=40)
     assert tuple(half) == example("two-chambers")
     answer = model.verdict(half, SUPPLY)
     assert answer == model.Answer(0, 5, 5, 960, 281)
     table, jobs = model.slice_rule(half, answer.cycle)
-    margins = [task.period - row[0].end for task, row in zip(half, jobs)]
+    margins = [task.deadline - row[0].end for task, row in zip(half, jobs)]
     assert margins == [54, 33, 44, 9, 5, 28, 22, 60, 10, 81] and list(table).count(0) == 43
 
 

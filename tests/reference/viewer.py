@@ -131,11 +131,10 @@ def filled(tasks, cycle, needs):
         job.takes = min(need, job.runtime)  # a job that needs more is closed at its run-time
     order, run = model.ranking(tasks), []
     for t in range(cycle):
-        now = [model.current(tasks, jobs, i, t) for i in order]
-        ready = [job for job in now if job.received < job.takes]
-        if ready:
-            ready[0].received += 1
-        run.append(ready[0].i + 1 if ready else 0)
+        job = model.first_waiting(tasks, jobs, order, t)
+        if job:
+            job.serve(t)
+        run.append(job.i + 1 if job else 0)
     return run
 
 
@@ -275,7 +274,9 @@ def try_all_needs(tasks, cycle):
 
 
 def small_lists():
-    """Accepted lists of one to three tasks with a cycle of at most 8 and few enough needs to try."""
+    """Accepted lists of one to three tasks with a cycle of at most 8 and few enough needs to try: with deadlines at
+    the period, at the run-time, and somewhere between."""
+    dice = random.Random(6)
     for count in (1, 2, 3):
         for periods in itertools.product(range(1, 9), repeat=count):
             cycle = model.common_multiple(periods)
@@ -286,8 +287,11 @@ def small_lists():
                 for period, runtime in zip(periods, runtimes):
                     tries *= (runtime + 1) ** (cycle // period)
                 if sum(r * (cycle // p) for p, r in zip(periods, runtimes)) <= cycle and tries <= 300:
-                    if model.verdict(tasks, 0).refusal == 0:
-                        yield tasks, cycle
+                    some = [tuple(dice.randint(c, t) for t, c in zip(periods, runtimes)) for _ in range(3)]
+                    for deadlines in sorted({periods, runtimes, *some}):
+                        due = bare(*zip(periods, runtimes, deadlines))
+                        if model.verdict(due, 0).refusal == 0:
+                            yield due, cycle
 
 
 # The words of the request, and its numbers
@@ -349,9 +353,15 @@ def self_test():
     by_table = [1, 2, 0, 3, 1, 3, 2, 2, 1, 3, 0, 0]
     assert explain(model.LIST_A, 0, text(by_table), needs) == Viewed(NO)
     assert explain(model.LIST_A, 0, text(by_table), [9] * 5) == Viewed(31)  # before the no
+    # Ranked by deadline: what explains one list explains the other no more. Nobody runs past a deadline.
+    due, table = model.DUE[0][0], model.DUE[0][2]
+    assert explain(due, 0, text(table), needs) == Viewed(0, 6) and needs == [1, 1, 1, 2, 2, 3, 9]
+    assert explain(model.LIST_A, 0, text(table), needs) == Viewed(NO)
+    assert explain(bare((4, 2, 2)), 0, text([1, 0, 1, 0]), [9]) == Viewed(NO)
     # Orders of refusal.
     assert read(model.LIST_C, 0, b"", bytearray()) == Viewed(7, 2, -1)
     assert explain(bare((64, 1), (65, 1)), 0, b"", []) == Viewed(6, 2, 0, 64, 65)
+    assert write(bare((64, 1), (65, 1, 66)), 0, [], bytearray()) == Viewed(20, 2)
     assert read(model.LIST_A, 0, text([16] * 11) + b"x", bytearray()) == Viewed(18, 130)
     assert read(model.LIST_A, 0, text([16] * 11), bytearray()) == Viewed(19)
     assert read(model.LIST_A, 0, text([16] * 12), bytearray()) == Viewed(30)

@@ -74,13 +74,15 @@ pub(crate) fn list(hand: Hand) -> Hand {
     judged(hand, supply, taken::take_list(count))
 }
 
-// Kind 0 is a run-time, whose tick cost follows, 1 a period.
+// Kind 0 is a run-time, whose tick cost follows, 1 a period, 2 a deadline.
 fn converted(kind: u8, micros: u32, length: u32) -> Slices {
     if kind == 0 {
         let tick = taken::word();
         units::runtime_slices(micros, length, tick)
-    } else {
+    } else if kind == 1 {
         units::period_slices(micros, length)
+    } else {
+        units::deadline_slices(micros, length)
     }
 }
 
@@ -103,7 +105,7 @@ pub(crate) fn conversion(hand: Hand) -> Hand {
     let kind = taken::byte();
     let micros = taken::word();
     let length = taken::word();
-    if 1 < kind {
+    if 2 < kind {
         return crate::open_if_formed(hand, false);
     }
     let found = converted(kind, micros, length);

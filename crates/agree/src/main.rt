@@ -44,6 +44,7 @@ fn empty() -> Hand {
                 period: 0,
                 runtime: 0,
                 memory: 0,
+                deadline: 0,
             }; 16],
             count: 0,
         },
@@ -59,6 +60,7 @@ fn empty() -> Hand {
         },
         state: State {
             periods: [0; 16],
+            deadlines: [0; 16],
             runtimes: [0; 16],
             used: [0; 16],
             ended: [false; 16],

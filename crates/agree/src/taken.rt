@@ -103,10 +103,12 @@ fn take_task() -> Task {
     let period = word();
     let runtime = word();
     let memory = word();
+    let deadline = word();
     Task {
         period,
         runtime,
         memory,
+        deadline,
     }
 }
 
@@ -126,6 +128,7 @@ pub(crate) fn take_list(count: usize) -> TaskList {
         period: 0,
         runtime: 0,
         memory: 0,
+        deadline: 0,
     }; 16];
     let mut i = 0;
     while i < count {
@@ -136,10 +139,11 @@ pub(crate) fn take_list(count: usize) -> TaskList {
     TaskList { tasks, count }
 }
 
-fn take_tasks(periods: &mut [u32; 16], runtimes: &mut [u32; 16]) {
+fn take_tasks(periods: &mut [u32; 16], deadlines: &mut [u32; 16], runtimes: &mut [u32; 16]) {
     let mut i = 0;
     while i < 16 {
         periods[i] = word();
+        deadlines[i] = word();
         runtimes[i] = word();
         i += 1;
     }
@@ -180,14 +184,16 @@ pub(crate) fn take_state() -> Given {
     let clock = word();
     let mode = byte();
     let mut periods = [0u32; 16];
+    let mut deadlines = [0u32; 16];
     let mut runtimes = [0u32; 16];
-    take_tasks(&mut periods, &mut runtimes);
+    take_tasks(&mut periods, &mut deadlines, &mut runtimes);
     let mut used = [0u32; 16];
     let mut ended = [false; 16];
     let formed = take_jobs(&mut used, &mut ended);
     Given {
         state: State {
             periods,
+            deadlines,
             runtimes,
             used,
             ended,
@@ -222,7 +228,7 @@ pub(crate) fn take_last() -> Last {
 pub(crate) fn take_magic() -> bool {
     let mut magic = [0u8; 8];
     io::read_full(STDIN_FILENO, &mut magic);
-    check::same(&magic, b"SLICES06")
+    check::same(&magic, b"SLICES07")
 }
 
 // A record's tag, or one that is none at the end of the input.

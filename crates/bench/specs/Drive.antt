@@ -6,7 +6,7 @@ use lib.ListN.{length}
 use Rattle.basis.specs.Bytes.{overwrite}
 use Rattle.tasks.specs.declared.Task.{Task}
 use Rattle.tasks.specs.declared.TaskList.{TaskList}
-use Rattle.units.specs.Conversion.{runtimeSlices, periodSlices, slicesOf}
+use Rattle.units.specs.Conversion.{runtimeSlices, periodSlices, deadlineSlices, slicesOf}
 use Rattle.verdict.specs.Verdict.{verdictOf}
 use Rattle.verdict.specs.Table.{Built}
 use Rattle.start.specs.declared.Asked.{Asked}
@@ -15,8 +15,14 @@ use Rattle.bench.specs.declared.Driven.{Driven}
 use Rattle.bench.specs.Course.{Course, needIn, courseAt}
 
 -- A task given in microseconds. A refused conversion is 0, which the list's checks refuse.
-unfoldable pub taskIn : ℕ → ℕ → ℕ → ℕ → ℕ → Task
-taskIn period runtime memory slice tick = record { period = slicesOf (periodSlices period slice); runtime = slicesOf (runtimeSlices runtime slice tick); memory = memory }
+unfoldable pub taskIn : ℕ → ℕ → ℕ → ℕ → ℕ → ℕ → Task
+taskIn period runtime memory deadline slice tick =
+    record {
+      period = slicesOf (periodSlices period slice);
+      runtime = slicesOf (runtimeSlices runtime slice tick);
+      memory = memory;
+      deadline = slicesOf (deadlineSlices deadline slice);
+    }
 
 -- What the start leaves, with no job ended.
 unfoldable pub begun : TaskList → ℕ → Asked → ℕ → List ℕ → List ℕ → Course

@@ -46,15 +46,17 @@ fn slices_or_zero(slices: Slices) -> u32
 }
 
 // A task from microseconds.
-pub fn task_in(period: u32, runtime: u32, memory: u32, slice: u32, tick: u32) -> Task
-    ensures { λ r. ⌜ r ≡ taskIn period runtime memory slice tick ⌝ }
+pub fn task_in(period: u32, runtime: u32, memory: u32, deadline: u32, slice: u32, tick: u32) -> Task
+    ensures { λ r. ⌜ r ≡ taskIn period runtime memory deadline slice tick ⌝ }
 {
     let every = slices_or_zero(units::period_slices(period, slice));
     let most = slices_or_zero(units::runtime_slices(runtime, slice, tick));
+    let due = slices_or_zero(units::deadline_slices(deadline, slice));
     Task {
         period: every,
         runtime: most,
         memory,
+        deadline: due,
     }
 }
 

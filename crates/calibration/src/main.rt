@@ -6,18 +6,20 @@ use start::Asked;
 use tasks::Task;
 use tasks::TaskList;
 
-// Positioner, power meter, sweep, link watch, log writer: period and run-time in microseconds, memory in words.
+// Positioner, power meter, sweep, link watch, log writer: period and run-time in microseconds, memory in words, and the deadline,
+// which is the end of the period for each.
 fn list() -> TaskList {
     let mut tasks = [Task {
         period: 0,
         runtime: 0,
         memory: 0,
+        deadline: 0,
     }; 16];
-    tasks[0] = bench::task_in(10000, 1900, 128, SLICE, TICK);
-    tasks[1] = bench::task_in(7500, 2000, 1024, SLICE, TICK);
-    tasks[2] = bench::task_in(30000, 6750, 24576, SLICE, TICK);
-    tasks[3] = bench::task_in(6000, 350, 64, SLICE, TICK);
-    tasks[4] = bench::task_in(60000, 2700, 4096, SLICE, TICK);
+    tasks[0] = bench::task_in(10000, 1900, 128, 10000, SLICE, TICK);
+    tasks[1] = bench::task_in(7500, 2000, 1024, 7500, SLICE, TICK);
+    tasks[2] = bench::task_in(30000, 6750, 24576, 30000, SLICE, TICK);
+    tasks[3] = bench::task_in(6000, 350, 64, 6000, SLICE, TICK);
+    tasks[4] = bench::task_in(60000, 2700, 4096, 60000, SLICE, TICK);
     TaskList { tasks, count: 5 }
 }
 

@@ -25,10 +25,11 @@ ofBytes bytes = overBytes 2166136261 bytes (length bytes)
 unfoldable pub overWord : ℕ → ℕ → ℕ
 overWord h w = mix (mix (mix (mix h (w % 256)) (w / 256 % 256)) (w / 65536 % 256)) (w / 16777216)
 
--- The first n places: period and run-time,
-unfoldable pub overTasks : ℕ → List ℕ → List ℕ → ℕ → ℕ
-overTasks h periods runtimes zero = h
-overTasks h periods runtimes (suc n) = overWord (overWord (overTasks h periods runtimes n) (getD periods n 0)) (getD runtimes n 0)
+-- The first n places: period, deadline and run-time,
+unfoldable pub overTasks : ℕ → List ℕ → List ℕ → List ℕ → ℕ → ℕ
+overTasks h periods deadlines runtimes zero = h
+overTasks h periods deadlines runtimes (suc n) =
+    overWord (overWord (overWord (overTasks h periods deadlines runtimes n) (getD periods n 0)) (getD deadlines n 0)) (getD runtimes n 0)
 
 -- and slices used and whether the job has ended.
 unfoldable pub endedByte : Bool → ℕ
@@ -49,4 +50,4 @@ ofNumbers s =
     overWord (overWord (overWord (overWord (overWord 2166136261 (s .count % 4294967296)) (s .count / 4294967296)) (s .cycle)) (s .position)) (s .clock)
 
 unfoldable pub ofState : State → ℕ
-ofState s = overJobs (overTasks (mix (ofNumbers s) (modeByte (s .mode))) (s .periods) (s .runtimes) 16) (s .used) (s .ended) 16
+ofState s = overJobs (overTasks (mix (ofNumbers s) (modeByte (s .mode))) (s .periods) (s .deadlines) (s .runtimes) 16) (s .used) (s .ended) 16

@@ -40,13 +40,19 @@ pub fn of_bytes(bytes: &[u8]) -> u32
     with_bytes(2166136261, bytes)
 }
 
-fn with_tasks<'a>(h: u32, periods: &'a [u32; 16], runtimes: &'a [u32; 16]) -> u32
-    ensures { λ r. ⌜ r ≡ overTasks h (now (periods .entry)) (now (runtimes .entry)) 16 ⌝ }
+fn with_tasks<'a>(
+    h: u32,
+    periods: &'a [u32; 16],
+    deadlines: &'a [u32; 16],
+    runtimes: &'a [u32; 16],
+) -> u32
+    ensures { λ r. ⌜ r ≡ overTasks h (now (periods .entry)) (now (deadlines .entry)) (now (runtimes .entry)) 16 ⌝ }
 {
     let mut sum = h;
     let mut i = 0;
     while i < 16 {
-        sum = with_word(with_word(sum, periods[i]), runtimes[i]);
+        let due = with_word(with_word(sum, periods[i]), deadlines[i]);
+        sum = with_word(due, runtimes[i]);
         i += 1;
     }
     sum
@@ -73,7 +79,7 @@ fn mode_byte(mode: Mode) -> u8
     }
 }
 
-// The 229 bytes of a state, in the format's order.
+// The 293 bytes of a state, in the format's order.
 pub fn of_state(state: State) -> u32
     ensures { λ r. ⌜ r ≡ ofState state ⌝ }
 {
@@ -87,6 +93,7 @@ pub fn of_state(state: State) -> u32
     let tasks = with_tasks(
         with_byte(clock, mode_byte(mode)),
         &state.periods,
+        &state.deadlines,
         &state.runtimes,
     );
     with_jobs(tasks, &state.used, &state.ended)

@@ -57,7 +57,7 @@ module _ (ts us : List Task) (n : ℕ) (same : (i : ℕ) → i < n → taskAt ts
   -- ---- the slice rule
   key-same : (t i : ℕ) → i < n → keyIn P t i ≡ keyIn Q t i
   unfolding keyIn planOf
-  key-same t i li = λ j. same i li j .period
+  key-same t i li = λ j. same i li j .deadline
 
   ranks-same : (i k : ℕ) → i < n → k < n → ranksBefore (keyIn P 0) i k ≡ ranksBefore (keyIn Q 0) i k
   unfolding ranksBefore
@@ -67,7 +67,7 @@ module _ (ts us : List Task) (n : ℕ) (same : (i : ℕ) → i < n → taskAt ts
   module _ (d c : Demand) (agree : (i x : ℕ) → i < n → d i x ≡ c i x) where
     wants-same : (t : ℕ) (h k : ℕ → ℕ) (i : ℕ) → i < n → h i ≡ k i → wants P d t h i ≡ wants Q c t k i
     unfolding wants age job planOf
-    wants-same t h k i li e = λ j. choose (ltb (t % same i li j .period) (same i li j .period)) ((agree i (t / taskAt ts i .period) li ∙ (λ x. c i (t / same i li x .period))) j - e j) 0
+    wants-same t h k i li e = λ j. choose (ltb (t % same i li j .period) (same i li j .deadline)) ((agree i (t / taskAt ts i .period) li ∙ (λ x. c i (t / same i li x .period))) j - e j) 0
 
     pick-same : (t : ℕ) (h k : ℕ → ℕ) → ((i : ℕ) → i < n → h i ≡ k i) → pick P d t h ≡ pick Q c t k
     unfolding pick planOf
@@ -100,7 +100,7 @@ module _ (ts us : List Task) (n : ℕ) (same : (i : ℕ) → i < n → taskAt ts
   -- ---- lateness
   missing-same : (t i : ℕ) → i < n → missing P t i ≡ missing Q t i
   unfolding missing received table age job planOf
-  missing-same t i li = λ j. choose (eqb (suc (t % same i li j .period)) (same i li j .period)) (same i li j .runtime - (had-same (P .runtime) (Q .runtime) runtime-same t i li j + gets (table-same t j) i)) 0
+  missing-same t i li = λ j. choose (eqb (suc (t % same i li j .period)) (same i li j .deadline)) (same i li j .runtime - (had-same (P .runtime) (Q .runtime) runtime-same t i li j + gets (table-same t j) i)) 0
 
   missed-same : (t : ℕ) → missedAt P t ≡ missedAt Q t
   unfolding missedAt planOf
@@ -123,7 +123,7 @@ module _ (ts us : List Task) (n : ℕ) (same : (i : ℕ) → i < n → taskAt ts
 
   margin-same : (i : ℕ) → i < n → margin P i ≡ margin Q i
   unfolding margin firstEnd planOf
-  margin-same i li = λ j. same i li j .period - least (λ t. leb (same i li j .runtime) (given-same i 0 t j)) (same i li j .period)
+  margin-same i li = λ j. same i li j .deadline - least (λ t. leb (same i li j .runtime) (given-same i 0 t j)) (same i li j .deadline)
 
   tighter-same : (i k : ℕ) → i < n → k < n → tighter P i k ≡ tighter Q i k
   unfolding tighter
@@ -153,11 +153,11 @@ module _ (ts us : List Task) (n : ℕ) (same : (i : ℕ) → i < n → taskAt ts
   unfolding pointsFrom isPoint planOf
   points-from-same i t zero li = refl
   points-from-same i t (suc k) li = λ j.
-      choose (eqb t (same i li j .period) || multiples-same i t n li (omega arith) j) (t ∷ points-from-same i (suc t) k li j) (points-from-same i (suc t) k li j)
+      choose (eqb t (same i li j .deadline) || multiples-same i t n li (omega arith) j) (t ∷ points-from-same i (suc t) k li j) (points-from-same i (suc t) k li j)
 
   points-same : (i : ℕ) → i < n → points P i ≡ points Q i
   unfolding points planOf
-  points-same i li = points-from-same i 1 (taskAt ts i .period) li ∙ (λ j. pointsFrom Q i 1 (same i li j .period))
+  points-same i li = points-from-same i 1 (taskAt ts i .deadline) li ∙ (λ j. pointsFrom Q i 1 (same i li j .deadline))
 
   passes-same : (i : ℕ) → i < n → (at : List ℕ) → passesAmong P i at ≡ passesAmong Q i at
   unfolding passesAmong
@@ -195,7 +195,7 @@ module _ (ts us : List Task) (n : ℕ) (same : (i : ℕ) → i < n → taskAt ts
   unfolding found ofTask ofMemory ofCycle
   found-same supply = λ j.
       ofCount n
-      orElse first-found-same (ofTask ts) (ofTask us) n (λ i li k. ofNumbers (same i li k .period) (same i li k .runtime) (suc i)) j
+      orElse first-found-same (ofTask ts) (ofTask us) n (λ i li k. ofNumbers (same i li k .period) (same i li k .runtime) (same i li k .deadline) (suc i)) j
       orElse first-found-same (ofMemory ts supply) (ofMemory us supply) n (λ i li k. choose (ltb supply (memory-same (suc i) li k)) (refusal 5 (suc i)) none) j
       orElse first-found-same (ofCycle ts) (ofCycle us) n (λ i li k. choose (ltb 4096 (multiple-same (suc i) li k)) (clash (suc i) (multiple-same i (omega arith) k) (same i li k .period)) none) j
 
@@ -237,5 +237,6 @@ module _ (ts us : List Task) (n : ℕ) (same : (i : ℕ) → i < n → taskAt ts
   unfolding startState
   state-same cycle mode clock =
       let periods = overwrite-same (λ i. taskAt ts i .period) (λ i. taskAt us i .period) (replicate 16 0) n (λ i li j. same i li j .period) in
+      let deadlines = overwrite-same (λ i. taskAt ts i .deadline) (λ i. taskAt us i .deadline) (replicate 16 0) n (λ i li j. same i li j .deadline) in
       let runtimes = overwrite-same (λ i. taskAt ts i .runtime) (λ i. taskAt us i .runtime) (replicate 16 0) n (λ i li j. same i li j .runtime) in
-      λ j. record { periods = periods j; runtimes = runtimes j; used = replicate 16 0; ended = replicate 16 false; count = n; cycle = cycle; position = 0; clock = clock; mode = mode }
+      λ j. record { periods = periods j; deadlines = deadlines j; runtimes = runtimes j; used = replicate 16 0; ended = replicate 16 false; count = n; cycle = cycle; position = 0; clock = clock; mode = mode }

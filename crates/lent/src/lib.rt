@@ -26,6 +26,7 @@ fn empty(count: usize) -> TaskList
             period: 0,
             runtime: 0,
             memory: 0,
+            deadline: 0,
         }; 16],
         count,
     }

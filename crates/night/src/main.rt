@@ -6,18 +6,20 @@ use start::Asked;
 use tasks::Task;
 use tasks::TaskList;
 
-// Positioner, power meter, sweep, link watch, log writer: period and run-time in microseconds, memory in words.
+// Positioner, power meter, sweep, link watch, log writer: period and run-time in microseconds, memory in words, and the deadline,
+// which is the end of the period for each.
 fn list() -> TaskList {
     let mut tasks = [Task {
         period: 0,
         runtime: 0,
         memory: 0,
+        deadline: 0,
     }; 16];
-    tasks[0] = bench::task_in(20000, 2800, 128, SLICE, TICK);
-    tasks[1] = bench::task_in(10000, 2000, 1024, SLICE, TICK);
-    tasks[2] = bench::task_in(40000, 11900, 16384, SLICE, TICK);
-    tasks[3] = bench::task_in(5000, 350, 64, SLICE, TICK);
-    tasks[4] = bench::task_in(80000, 5800, 8192, SLICE, TICK);
+    tasks[0] = bench::task_in(20000, 2800, 128, 20000, SLICE, TICK);
+    tasks[1] = bench::task_in(10000, 2000, 1024, 10000, SLICE, TICK);
+    tasks[2] = bench::task_in(40000, 11900, 16384, 40000, SLICE, TICK);
+    tasks[3] = bench::task_in(5000, 350, 64, 5000, SLICE, TICK);
+    tasks[4] = bench::task_in(80000, 5800, 8192, 80000, SLICE, TICK);
     TaskList { tasks, count: 5 }
 }
 

@@ -5,6 +5,7 @@ use mathlib.Core.Bool.{false, true≢false}
 use mathlib.Core.Logic.{⊎-elim}
 use Prim.Native.Nat.{ℕ, _+_, _/_, _≤_, _<_, _∣_}
 use native.Mathlib.Omega.{arith}
+use native.Mathlib.Nat.{mod-eq-of-lt}
 use lib.IntN.{ℤ}
 use lib.ListN.{length, getD, replicate, length-replicate, getD-replicate, List·getD-eq-default}
 use borrow.Author.Tests.{lt-ltb, le-ltb}
@@ -26,7 +27,7 @@ use Rattle.run.specs.declared.Mode.{Mode}
 use Rattle.run.specs.declared.State.{State}
 use Rattle.start.specs.declared.Begun.{Begun}
 use Rattle.start.specs.declared.Started.{Started}
-use Rattle.run.specs.State.{Job, fresh, periodOf, runtimeOf, currentOf, jobOf, offset, jobCount}
+use Rattle.run.specs.State.{Job, fresh, periodOf, dueOf, runtimeOf, currentOf, ageOf, jobOf, offset, jobCount}
 use Rattle.run.specs.Sound.{SoundState}
 use Rattle.start.specs.Start.{modeOf, startState, begunOf, begunState, begunLog, Begins, begunAnswer}
 use Rattle.run.specs.Places.{job-within}
@@ -100,6 +101,10 @@ module _ (l : TaskList) (supply : ℕ) (K : KeepsBounds l supply) (m : Mode) (cl
   unfolding periodOf planOf startState
   start-period = told (λ (t : Task). t .period)
 
+  pub start-due : (i : ℕ) → i < l .count → dueOf s i ≡ planOf l .due i
+  unfolding dueOf planOf startState
+  start-due = told (λ (t : Task). t .deadline)
+
   pub start-runtime : (i k : ℕ) → i < l .count → runtimeOf s i k ≡ planOf l .runtime i k
   unfolding runtimeOf planOf startState
   start-runtime i k = told (λ (t : Task). t .runtime) i
@@ -114,9 +119,9 @@ module _ (l : TaskList) (supply : ℕ) (K : KeepsBounds l supply) (m : Mode) (cl
     count-is = refl;
     cycle-is = refl;
     period-is = start-period;
-    due-is = start-period;
+    due-is = start-due;
     runtime-is = start-runtime;
-    key-is = λ i k. start-period i;
+    key-is = λ i k. start-due i;
     jobs-room = record { used-room = omega (arith, K .few); ended-room = omega (arith, K .few) };
   }
 
@@ -129,6 +134,10 @@ module _ (l : TaskList) (supply : ℕ) (K : KeepsBounds l supply) (m : Mode) (cl
   unfolding placeOf startState
   place-within i k li lk =
       omega (arith, job-within s i k li (subst (λ (x : ℕ). k < cycleOf l / x) (sym (start-period i li)) lk), start-jobs, offset-listed l s start-carries i (omega arith))
+
+  start-age : (i : ℕ) → i < l .count → ageOf s i ≡ 0
+  unfolding ageOf startState planOf
+  start-age i li = mod-eq-of-lt (omega (arith, start-period i li, K .fits i li .period-from))
 
   start-sound : SoundState s
   unfolding startState fresh planOf
@@ -144,8 +153,11 @@ module _ (l : TaskList) (supply : ℕ) (K : KeepsBounds l supply) (m : Mode) (cl
       period-divides = subst (λ (x : ℕ). x ∣ cycleOf l) (sym (start-period i li)) (period-divides-cycle l supply K i li);
       runtime-from = omega (arith, start-runtime i (currentOf s i) li, K .fits i li .runtime-from);
       runtime-to = omega (arith, start-runtime i (currentOf s i) li, start-period i li, K .fits i li .runtime-to);
+      due-from = omega (arith, start-runtime i (currentOf s i) li, start-due i li, K .fits i li .deadline-from);
+      due-to = omega (arith, start-period i li, start-due i li, K .fits i li .deadline-to);
       used-to = omega (arith, ap (λ (j : Job). j .used) (start-job i));
       used-below = λ _. omega (arith, ap (λ (j : Job). j .used) (start-job i), start-runtime i (currentOf s i) li, K .fits i li .runtime-from);
+      open-before = λ _. omega (arith, start-age i li, start-due i li, K .fits i li .runtime-from, K .fits i li .deadline-from);
     };
   }
 

@@ -32,7 +32,9 @@ second-of : (most : ℕ) (a b : Answer) → UpTo most a → most ≤ 5 → (a or
 second-of most a b low l e =
     ⊎-elim
     (λ (z : a .number ≡ 0). (z, sym (ap (λ (x : Answer). x .number) (else-found a b z)) ∙ e))
-    (λ (some : a .number ≡ 0 → ⊥). absurd (omega (arith, low .to-most, ap (λ (x : Answer). x .number) (else-kept a b some))))
+    (λ (some : a .number ≡ 0 → ⊥).
+    let six : a .number ≡ 6 = sym (ap (λ (x : Answer). x .number) (else-kept a b some)) ∙ e in
+    absurd (⊎-elim (λ (h : a .number ≤ most). omega arith) (λ (h : a .number ≡ 20). omega arith) (low .to-most)))
     (eq-or-ne (a .number) 0)
 
 module _ (l : TaskList) (supply : ℕ) (six : found l supply .number ≡ 6) where

@@ -25,21 +25,21 @@ use Rattle.start.specs.Start.{Begins, begunAnswer}
 use Rattle.run.specs.declared.Mode.the-variants as mode
 use Rattle.run.specs.declared.State.{State}
 use Rattle.run.specs.declared.Next.{Next}
-use Rattle.run.specs.State.{periodOf, runtimeOf, currentOf, jobOf, fresh, place}
+use Rattle.run.specs.State.{periodOf, runtimeOf, currentOf, jobOf, fresh, place, dueOf}
 use Rattle.run.specs.Sound.{SoundState}
 use Rattle.run.specs.StateAfter.{HandedOn, Room}
 use Rattle.run.specs.Who.{running, whoOf, runnerAnswer}
 use Rattle.run.specs.Step.{Stepped, closedAnswer}
 use Rattle.units.specs.declared.Slices.the-variants as slices
-use Rattle.units.specs.Conversion.{runtimeSlices, periodSlices, slicesOf, slicesAnswer}
-use Rattle.units.specs.Laws.{Fewest}
+use Rattle.units.specs.Conversion.{runtimeSlices, periodSlices, slicesOf, slicesAnswer, deadlineSlices}
+use Rattle.units.specs.Laws.{Fewest, Latest}
 use Rattle.readings.specs.declared.Entry.{Entry}
 use Rattle.readings.specs.declared.Entry.the-variants.{Idle, Task, NoEntry}
 use Rattle.readings.specs.declared.Logged.the-variants.{NoResult, Done}
 use Rattle.readings.specs.Reading.{entryOf, refusalOf, loggedOf, entryByte, refusalNumber, loggedByte}
 use Rattle.bench.specs.Drive.{taskIn}
 use Rattle.promises.specs.Program.{Program}
-use Rattle.promises.specs.Refusals.{boundsRules, listRules, buildRules, startRules, whoRules, stepRules, no-share, not-whole}
+use Rattle.promises.specs.Refusals.{boundsRules, listRules, buildRules, startRules, whoRules, stepRules, no-share, not-whole, no-length}
 
 -- ---- a start
 -- A state of no tasks in table mode, every number 0 and no job ended, which is not sound.
@@ -50,6 +50,7 @@ pub record NoRun (s : State) : Type 0 where
   pub clock-0 : s .clock ≡ 0
   pub by-table : s .mode ≡ mode.Table
   pub periods-0 : (i : ℕ) → periodOf s i ≡ 0
+  pub deadlines-0 : (i : ℕ) → dueOf s i ≡ 0
   pub runtimes-0 : (i k : ℕ) → runtimeOf s i k ≡ 0
   pub none-ended : (i : ℕ) → jobOf s i ≡ fresh
   pub not-sound : SoundState s → ⊥
@@ -65,8 +66,9 @@ pub record BegunRun (l : TaskList) (asked : Asked) (clock : ℕ) (log log′ : L
   pub table-asked : asked ≡ mode-asked.Table → s .mode ≡ mode.Table
   pub none-named : asked ≡ mode-asked.Unnamed → s .mode ≡ mode.Table
   pub periods-are : (i : ℕ) → i < l .count → periodOf s i ≡ taskAt (l .tasks) i .period
+  pub deadlines-are : (i : ℕ) → i < l .count → dueOf s i ≡ taskAt (l .tasks) i .deadline
   pub runtimes-are : (i k : ℕ) → i < l .count → runtimeOf s i k ≡ taskAt (l .tasks) i .runtime
-  pub beyond-0 : (i k : ℕ) → l .count ≤ i → (periodOf s i ≡ 0) × (runtimeOf s i k ≡ 0)
+  pub beyond-0 : (i k : ℕ) → l .count ≤ i → (periodOf s i ≡ 0) × (dueOf s i ≡ 0) × (runtimeOf s i k ≡ 0)
   pub jobs-fresh : (i : ℕ) → jobOf s i ≡ fresh
   pub log-cleared : (x : ℕ) → x < jobsOf l → getD log′ x 0 ≡ 0
   pub log-beyond : (x : ℕ) → jobsOf l ≤ x → getD log′ x 0 ≡ getD log x 0
@@ -79,17 +81,21 @@ pub record RunsByTable (s : State) (entry : Entry) (task : ℕ) : Type 0 where
   pub ended : (i : ℕ) → entry ≡ Task (suc i) → jobOf s i .ended ≡ true → task ≡ 0
   pub unended : (i : ℕ) → entry ≡ Task (suc i) → jobOf s i .ended ≡ false → task ≡ suc i
 
--- Filling, the first-ranking task whose current job has not ended: shorter period first, then the earlier in the list.
+-- Filling, the first-ranking task whose current job has not ended: nearer deadline first, then the earlier in the list.
 pub record RunsFilling (s : State) (task : ℕ) : Type 0 where
   pub idle : task ≡ 0 → (j : ℕ) → j < s .count → jobOf s j .ended ≡ true
   pub unended : (i : ℕ) → task ≡ suc i → (i < s .count) × (jobOf s i .ended ≡ false)
-  pub shortest : (i j : ℕ) → task ≡ suc i → j < s .count → jobOf s j .ended ≡ false → periodOf s i ≤ periodOf s j
-  pub earliest : (i j : ℕ) → task ≡ suc i → j < s .count → jobOf s j .ended ≡ false → periodOf s j ≡ periodOf s i → i ≤ j
+  pub nearest : (i j : ℕ) → task ≡ suc i → j < s .count → jobOf s j .ended ≡ false → dueOf s i ≤ dueOf s j
+  pub earliest : (i j : ℕ) → task ≡ suc i → j < s .count → jobOf s j .ended ≡ false → dueOf s j ≡ dueOf s i → i ≤ j
 
 -- ---- a step
--- There is a deadline of task i at p + 1, which is its next release.
+-- There is a deadline of task i at p + 1: so long after the release of its current job.
 abbrev pub Due : State → ℕ → Type 0
-Due s i = suc (s .position) ≡ suc (currentOf s i) * periodOf s i
+Due s i = suc (s .position) ≡ currentOf s i * periodOf s i + dueOf s i
+
+-- There is its next release.
+abbrev pub Released : State → ℕ → Type 0
+Released s i = suc (s .position) ≡ suc (currentOf s i) * periodOf s i
 
 -- Task i ran and this slice completes its run-time.
 abbrev pub Completes : State → List ℕ → ℕ → Type 0
@@ -107,21 +113,24 @@ pub record ClosedSlice (s : State) (table : List ℕ) (clock report : ℕ) (log 
   pub had-ended : (i : ℕ) → i < s .count → jobOf s i .ended ≡ true → getD log′ (place s i) 0 ≡ getD log (place s i) 0
   pub no-other : (x : ℕ) → ((i : ℕ) → i < s .count → x ≡ place s i → ⊥) → getD log′ x 0 ≡ getD log x 0
   pub log-length : length log′ ≡ length log
-  -- of its job: a fresh one where there is a deadline; else one slice used for the task that ran, and nothing for the others.
-  pub fresh-job : (i : ℕ) → i < s .count → Due s i → jobOf after i ≡ fresh
-  pub one-used : (i : ℕ) → running s table ≡ suc i → (Due s i → ⊥) → jobOf after i .used ≡ jobOf s i .used + 1
-  pub ended-then : (i : ℕ) → running s table ≡ suc i → (Due s i → ⊥) → report ≡ 1 → jobOf after i .ended ≡ true
-  pub ended-complete : (i : ℕ) → Completes s table i → (Due s i → ⊥) → jobOf after i .ended ≡ true
-  pub open-still : (i : ℕ) → running s table ≡ suc i → (Due s i → ⊥) → report ≡ 0 → (Completes s table i → ⊥) → jobOf after i .ended ≡ false
-  pub others-same : (i : ℕ) → i < s .count → (running s table ≡ suc i → ⊥) → (Due s i → ⊥) → jobOf after i ≡ jobOf s i
+  -- of its job: a fresh one where it is released; else one slice used for the task that ran, and none for the others; at its deadline
+  -- it is closed, having ended or not.
+  pub fresh-job : (i : ℕ) → i < s .count → Released s i → jobOf after i ≡ fresh
+  pub closed-job : (i : ℕ) → i < s .count → Due s i → (Released s i → ⊥) → jobOf after i .ended ≡ true
+  pub one-used : (i : ℕ) → running s table ≡ suc i → (Released s i → ⊥) → jobOf after i .used ≡ jobOf s i .used + 1
+  pub none-used : (i : ℕ) → i < s .count → (running s table ≡ suc i → ⊥) → (Released s i → ⊥) → jobOf after i .used ≡ jobOf s i .used
+  pub ended-then : (i : ℕ) → running s table ≡ suc i → (Released s i → ⊥) → report ≡ 1 → jobOf after i .ended ≡ true
+  pub ended-complete : (i : ℕ) → Completes s table i → (Released s i → ⊥) → jobOf after i .ended ≡ true
+  pub open-still : (i : ℕ) → running s table ≡ suc i → (Released s i → ⊥) → (Due s i → ⊥) → report ≡ 0 → (Completes s table i → ⊥) → jobOf after i .ended ≡ false
+  pub others-same : (i : ℕ) → i < s .count → (running s table ≡ suc i → ⊥) → (Released s i → ⊥) → (Due s i → ⊥) → jobOf after i ≡ jobOf s i
 
 pub record Demand1 : Type 0 where
-  -- Refusals 1 to 6, 1 to 7 and 1 to 8; a refused build writes nothing.
+  -- Refusals 1 to 6 and 20, then 7, then 8; a refused build writes nothing.
   pub bounds : (l : TaskList) (supply : ℕ) → GoesBy (boundsRules l supply) (boundsAnswer (boundsOf l supply))
   pub judge : (l : TaskList) (supply : ℕ) → GoesBy (listRules l supply) (verdictAnswer (verdictOf l supply))
   pub build : (l : TaskList) (supply : ℕ) (old new : List ℕ) (v : Verdict) → Built l supply old new v → GoesBy (buildRules l supply (length old)) (verdictAnswer v)
   pub build-refused : (l : TaskList) (supply : ℕ) (old new : List ℕ) (v : Verdict) → Built l supply old new v → (verdictAnswer v .number ≡ 0 → ⊥) → new ≡ old
-  -- A start: 1 to 7, then 12; refused, it writes nothing and gives the state of no run.
+  -- A start: 1 to 7 and 20, then 12; refused, it writes nothing and gives the state of no run.
   pub start : (l : TaskList) (supply : ℕ) (asked : Asked) (clock : ℕ) (log log′ : List ℕ) (r : Started)
       → Begins l supply asked clock log log′ r → GoesBy (startRules l supply (length log)) (begunAnswer (r .answer))
   pub start-refused : (l : TaskList) (supply : ℕ) (asked : Asked) (clock : ℕ) (log log′ : List ℕ) (r : Started)
@@ -141,18 +150,23 @@ pub record Demand1 : Type 0 where
   pub step-closed : (s : State) (table : List ℕ) (clock report : ℕ) (log log′ : List ℕ) (r : Next)
       → Stepped s table clock report log log′ r → closedAnswer (r .answer) .number ≡ 0 → Room s → ClosedSlice s table clock report log log′ (r .state)
   -- Conversions: 17; refused, the answer is 0. A run-time takes the fewest slices that hold it beside a tick in each, no fewer
-  -- where the tick costs more, and without a tick cost what it took by the whole slice length; a period exactly its slices.
+  -- where the tick costs more, and without a tick cost what it took by the whole slice length; a period exactly its slices; a
+  -- deadline as many as end no later.
   pub runtime : (micros slice tick : ℕ) → GoesBy (no-share slice tick then no-more) (slicesAnswer (runtimeSlices micros slice tick))
   pub period : (micros slice : ℕ) → GoesBy (not-whole micros slice then no-more) (slicesAnswer (periodSlices micros slice))
+  pub deadline : (micros slice : ℕ) → GoesBy (no-length slice then no-more) (slicesAnswer (deadlineSlices micros slice))
   pub runtime-fewest : (micros slice tick : ℕ) → tick < slice → Fewest micros slice tick (slicesOf (runtimeSlices micros slice tick))
   pub larger-tick-no-fewer : (micros slice tick tick′ : ℕ) → tick ≤ tick′ → tick′ < slice → slicesOf (runtimeSlices micros slice tick) ≤ slicesOf (runtimeSlices micros slice tick′)
   pub without-tick : (micros slice : ℕ) → runtimeSlices micros slice 0 ≡ choose (eqb slice 0) slices.Refused (slices.Count (ceil micros slice))
   pub period-exact : (n slice : ℕ) → 0 < slice → slicesOf (periodSlices (n * slice) slice) ≡ n
+  pub deadline-latest : (micros slice : ℕ) → 0 < slice → Latest micros slice (slicesOf (deadlineSlices micros slice))
   -- The bench's task from microseconds: what the conversions give, and 0 for what they refuse.
-  pub task-whole : (n runtime memory slice tick : ℕ) → 0 < slice → taskIn (n * slice) runtime memory slice tick .period ≡ n
-  pub task-runtime : (period micros memory slice tick : ℕ) → tick < slice → Fewest micros slice tick (taskIn period micros memory slice tick .runtime)
-  pub task-no-period : (micros runtime memory slice tick : ℕ) → (slicesAnswer (periodSlices micros slice) .number ≡ 0 → ⊥) → taskIn micros runtime memory slice tick .period ≡ 0
-  pub task-no-runtime : (period micros memory slice tick : ℕ) → (slicesAnswer (runtimeSlices micros slice tick) .number ≡ 0 → ⊥) → taskIn period micros memory slice tick .runtime ≡ 0
+  pub task-whole : (n runtime memory due slice tick : ℕ) → 0 < slice → taskIn (n * slice) runtime memory due slice tick .period ≡ n
+  pub task-runtime : (period micros memory due slice tick : ℕ) → tick < slice → Fewest micros slice tick (taskIn period micros memory due slice tick .runtime)
+  pub task-deadline : (period runtime memory micros slice tick : ℕ) → 0 < slice → Latest micros slice (taskIn period runtime memory micros slice tick .deadline)
+  pub task-no-period : (micros runtime memory due slice tick : ℕ) → (slicesAnswer (periodSlices micros slice) .number ≡ 0 → ⊥) → taskIn micros runtime memory due slice tick .period ≡ 0
+  pub task-no-runtime : (period micros memory due slice tick : ℕ) → (slicesAnswer (runtimeSlices micros slice tick) .number ≡ 0 → ⊥) → taskIn period micros memory due slice tick .runtime ≡ 0
+  pub task-no-deadline : (period runtime memory micros slice tick : ℕ) → (slicesAnswer (deadlineSlices micros slice) .number ≡ 0 → ⊥) → taskIn period runtime memory micros slice tick .deadline ≡ 0
   -- A reading stands for the number that was read, whatever it is; a result byte of 0 means no result, and only a 1 reads as done.
   pub entry-said : (byte count : ℕ) → entryByte (entryOf byte count) ≡ byte
   pub refusal-said : (number : ℕ) → refusalNumber (refusalOf number) ≡ number

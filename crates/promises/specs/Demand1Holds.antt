@@ -30,26 +30,26 @@ use Rattle.run.specs.declared.Mode.{Mode}
 use Rattle.run.specs.declared.Mode.the-variants.{Table, Filling}
 use Rattle.run.specs.declared.State.{State}
 use Rattle.run.specs.declared.Next.{Next}
-use Rattle.run.specs.State.{Job, fresh, periodOf, keyOf, runtimeOf, currentOf, jobOf, deadlineNext, releaseNext}
+use Rattle.run.specs.State.{Job, fresh, periodOf, keyOf, runtimeOf, currentOf, jobOf, deadlineNext, releaseNext, dueOf}
 use Rattle.run.specs.Places.{deadline-next-tells, release-next-tells}
 use Rattle.run.specs.Who.{unlessEnded, firstOpen, runningBy, running, whoRefusal, ofEntry, answered, whoOf, runnerAnswer}
-use Rattle.run.specs.Step.{afterSlice, stateAfter, logAfter, stepRefusal, nextState, nextLog, Stepped, closedAnswer, closed-number}
+use Rattle.run.specs.Step.{afterSlice, stateAfter, logAfter, stepRefusal, nextState, nextLog, Stepped, closedAnswer, closed-number, closedAt}
 use Rattle.run.specs.Accepted.{StepAccepted, who-runs, step-accepted, step-answers}
-use Rattle.run.specs.StateAfter.{slice-here, slice-elsewhere, job-anew, job-goes-on, handed-on, job-after, Room}
+use Rattle.run.specs.StateAfter.{slice-here, slice-elsewhere, job-anew, job-goes-on, handed-on, job-after, Room, job-closed}
 use Rattle.run.specs.LogAfter.{log-length, log-elsewhere, log-done, log-over, log-late, log-open, log-ended}
 use Rattle.units.specs.declared.Slices.{Slices}
 use Rattle.units.specs.declared.Slices.the-variants.{Count}
 use Rattle.units.specs.declared.Slices.the-variants as slices
-use Rattle.units.specs.Conversion.{runtimeSlices, periodSlices, slicesOf, slicesAnswer}
-use Rattle.units.specs.Laws.{runtime-fewest, larger-tick-no-fewer, without-tick, period-accepted}
+use Rattle.units.specs.Conversion.{runtimeSlices, periodSlices, slicesOf, slicesAnswer, deadlineSlices}
+use Rattle.units.specs.Laws.{runtime-fewest, larger-tick-no-fewer, without-tick, period-accepted, deadline-latest}
 use Rattle.readings.specs.declared.Entry.the-variants.{NoEntry}
 use Rattle.readings.specs.Reading.{entryOf}
 use Rattle.readings.specs.Laws.{reads-no-entry, idle-read, task-read, no-entry-read, entry-byte, refusal-number, logged-byte, reads-results, done-is-one}
 use Rattle.bench.specs.Drive.{taskIn}
-use Rattle.promises.specs.Begun.{all-alike, start-accepted, start-period, start-runtime, start-job}
-use Rattle.promises.specs.RefusalsHold.{bounds-go, list-goes, build-goes, start-goes, who-goes, step-goes, runtime-goes, period-goes}
+use Rattle.promises.specs.Begun.{all-alike, start-accepted, start-period, start-runtime, start-job, start-due}
+use Rattle.promises.specs.RefusalsHold.{bounds-go, list-goes, build-goes, start-goes, who-goes, step-goes, runtime-goes, period-goes, deadline-goes}
 use Rattle.promises.specs.ProgramHolds.{program}
-use Rattle.promises.specs.Demand1.{NoRun, BegunRun, RunsByTable, RunsFilling, Due, Completes, ClosedSlice, Demand1}
+use Rattle.promises.specs.Demand1.{NoRun, BegunRun, RunsByTable, RunsFilling, Due, Completes, ClosedSlice, Demand1, Released}
 
 -- ---- table building
 pub build-refused : (l : TaskList) (supply : ℕ) (old new : List ℕ) (v : Verdict) → Built l supply old new v → (verdictAnswer v .number ≡ 0 → ⊥) → new ≡ old
@@ -59,7 +59,7 @@ build-refused l supply old new (Refused n t m r p) built nz = built .bytes
 
 -- ---- a start
 no-run : NoRun noRun
-unfolding noRun periodOf runtimeOf jobOf fresh
+unfolding noRun periodOf dueOf runtimeOf jobOf fresh
 no-run = record {
   count-0 = refl;
   cycle-0 = refl;
@@ -67,6 +67,7 @@ no-run = record {
   clock-0 = refl;
   by-table = refl;
   periods-0 = λ i. all-alike 0 i;
+  deadlines-0 = λ i. all-alike 0 i;
   runtimes-0 = λ i k. all-alike 0 i;
   none-ended = λ i. ap₂ (λ u e. record { used = u; ended = e }) (all-alike 0 i) (all-alike false i);
   not-sound = λ S. omega (arith, S .count-from);
@@ -91,7 +92,7 @@ module _ (l : TaskList) (supply : ℕ) (asked : Asked) (clock : ℕ) (log log′
           (bool-cases (ltb (length log) j))
 
   start-begun : begunAnswer (r .answer) .number ≡ 0 → BegunRun l asked clock log log′ (r .state)
-  unfolding startState planOf periodOf runtimeOf modeOf
+  unfolding startState planOf periodOf dueOf runtimeOf modeOf
   start-begun z =
       let accepted = start-accepted l supply asked clock log log′ r begins z in
       rw (accepted .state-is, accepted .log-is)
@@ -104,8 +105,9 @@ module _ (l : TaskList) (supply : ℕ) (asked : Asked) (clock : ℕ) (log log′
         table-asked = λ e. ap modeOf e;
         none-named = λ e. ap modeOf e;
         periods-are = start-period l supply (accepted .keeps) (modeOf asked) clock;
+        deadlines-are = start-due l supply (accepted .keeps) (modeOf asked) clock;
         runtimes-are = start-runtime l supply (accepted .keeps) (modeOf asked) clock;
-        beyond-0 = λ i k li. (zeros (λ (t : Task). t .period) i li, zeros (λ (t : Task). t .runtime) i li);
+        beyond-0 = λ i k li. (zeros (λ (t : Task). t .period) i li, zeros (λ (t : Task). t .deadline) i li, zeros (λ (t : Task). t .runtime) i li);
         jobs-fresh = start-job l supply (accepted .keeps) (modeOf asked) clock;
         log-cleared = λ x lx. overwrite-at (λ _. 0) log 0 (jobsOf l) x lx (omega (arith, accepted .room));
         log-beyond = λ x lx. overwrite-kept (λ _. 0) log 0 (jobsOf l) x lx;
@@ -160,15 +162,15 @@ module _ (s : State) (table : List ℕ) (z : runnerAnswer (whoOf s table) .numbe
       go (inl h) = record {
         idle = λ _ j lj. ⊎-elim (λ t. t) (λ f. absurd (omega (arith, want-tells j .1 f, h .none j lj))) (bool-cases (jobOf s j .ended));
         unended = λ i e. absurd (omega (arith, is, h .idle));
-        shortest = λ i j e. absurd (omega (arith, is, h .idle));
+        nearest = λ i j e. absurd (omega (arith, is, h .idle));
         earliest = λ i j e. absurd (omega (arith, is, h .idle));
       }
       go (inr h) = record {
         idle = λ e. absurd (omega (arith, is, h .is));
         unended = λ i e. (omega (arith, that i e, h .below), ap (λ (x : ℕ). jobOf s x .ended) (sym (that i e)) ∙ want-tells (h .task) .0 (h .wanting));
-        shortest = λ i j e lj f. omega (arith, not-before-key (λ i. keyOf s i (currentOf s i)) j (h .task) (h .none-before j lj (want-tells j .1 f)), ap (periodOf s) (that i e));
+        nearest = λ i j e lj f. omega (arith, not-before-key (λ i. keyOf s i (currentOf s i)) j (h .task) (h .none-before j lj (want-tells j .1 f)), ap (dueOf s) (that i e));
         earliest = λ i j e lj f q.
-            omega (arith, that i e, not-before-place (λ i. keyOf s i (currentOf s i)) j (h .task) (h .none-before j lj (want-tells j .1 f)) (q ∙ ap (periodOf s) (sym (that i e))));
+            omega (arith, that i e, not-before-place (λ i. keyOf s i (currentOf s i)) j (h .task) (h .none-before j lj (want-tells j .1 f)) (q ∙ ap (dueOf s) (sym (that i e))));
       }
         where
           that : (i : ℕ) → runnerAnswer (whoOf s table) .task ≡ suc i → h .task ≡ i
@@ -179,18 +181,12 @@ no-entry-above byte count few = (λ l. reads-no-entry byte count (omega arith) (
 
 -- ---- a step
 module _ (s : State) (i : ℕ) where
-  -- the job's end is its release and a period
-  at-end : (b : Bool) → ((b ≡ true) ↔ (suc (s .position) ≡ currentOf s i * periodOf s i + periodOf s i)) → (b ≡ true) ↔ Due s i
-  at-end b told = let e = suc-mul (currentOf s i) (periodOf s i) in (λ t. told .0 t ∙ sym e, λ d. told .1 (d ∙ e))
+  -- the next release is a period after the last
+  release-tells : (releaseNext s i ≡ true) ↔ Released s i
+  release-tells = let e = suc-mul (currentOf s i) (periodOf s i) in (λ t. release-next-tells s i .0 t ∙ sym e, λ d. release-next-tells s i .1 (d ∙ e))
 
-  due-tells : (deadlineNext s i ≡ true) ↔ Due s i
-  due-tells = at-end _ (deadline-next-tells s i)
-
-  release-tells : (releaseNext s i ≡ true) ↔ Due s i
-  release-tells = at-end _ (release-next-tells s i)
-
-  not-yet : (b : Bool) → ((b ≡ true) ↔ Due s i) → (Due s i → ⊥) → b ≡ false
-  not-yet b told never = ⊎-elim (λ t. absurd (never (told .0 t))) (λ f. f) (bool-cases b)
+  not-yet : (b : Bool) (A : Type 0) → ((b ≡ true) ↔ A) → (A → ⊥) → b ≡ false
+  not-yet b A told never = ⊎-elim (λ t. absurd (never (told .0 t))) (λ f. f) (bool-cases b)
 
 module _ (s : State) (table : List ℕ) (clock report : ℕ) (log : List ℕ) (went : StepAccepted s table clock report log) (R : Room s) where
   abbrev ran : ℕ
@@ -207,29 +203,52 @@ module _ (s : State) (table : List ℕ) (clock report : ℕ) (log : List ℕ) (w
       (λ (ne : ran ≡ suc i → ⊥). ap (λ (j : Job). j .ended) (slice-elsewhere s ran report i ne) ∙ unended)
       (eq-or-ne ran (suc i))
 
-  goes-on : (i : ℕ) → i < s .count → (Due s i → ⊥) → jobOf (stateAfter s ran clock report) i ≡ afterSlice s ran report i
-  goes-on i li not-due = job-after s table clock report log went R i li ∙ job-goes-on s ran report i (not-yet s i _ (release-tells s i) not-due)
+  no-release : (i : ℕ) → (Released s i → ⊥) → releaseNext s i ≡ false
+  no-release i never = not-yet s i _ _ (release-tells s i) never
 
-  served : (i : ℕ) → ran ≡ suc i → (Due s i → ⊥) → jobOf (stateAfter s ran clock report) i ≡ record { used = jobOf s i .used + 1; ended = eqb report 1 || eqb (jobOf s i .used + 1) (runtimeOf s i (currentOf s i)) }
-  served i e not-due = goes-on i (below i e) not-due ∙ slice-here s ran report i e
+  no-deadline : (i : ℕ) → (Due s i → ⊥) → deadlineNext s i ≡ false
+  no-deadline i never = not-yet s i _ _ (deadline-next-tells s i) never
+
+  -- where there is no release, the job is the one after the slice, closed if that is its deadline
+  closed : (i : ℕ) → i < s .count → (Released s i → ⊥) → jobOf (stateAfter s ran clock report) i ≡ closedAt (deadlineNext s i) (afterSlice s ran report i)
+  closed i li never = job-after s table clock report log went R i li ∙ job-closed s ran report i (no-release i never)
+
+  its-used : (i : ℕ) → i < s .count → (Released s i → ⊥) → jobOf (stateAfter s ran clock report) i .used ≡ afterSlice s ran report i .used
+  unfolding closedAt
+  its-used i li never = ap (λ (j : Job). j .used) (closed i li never)
+
+  its-end : (i : ℕ) → i < s .count → (Released s i → ⊥) → jobOf (stateAfter s ran clock report) i .ended ≡ (afterSlice s ran report i .ended || deadlineNext s i)
+  unfolding closedAt
+  its-end i li never = ap (λ (j : Job). j .ended) (closed i li never)
+
+  goes-on : (i : ℕ) → i < s .count → (Released s i → ⊥) → (Due s i → ⊥) → jobOf (stateAfter s ran clock report) i ≡ afterSlice s ran report i
+  goes-on i li never not-due =
+      job-after s table clock report log went R i li ∙ job-goes-on s ran report i (no-release i never) (λ t. absurd (true≢false (sym t ∙ no-deadline i not-due)))
+
+  ended-here : (i : ℕ) → i < s .count → (Released s i → ⊥) → afterSlice s ran report i .ended ≡ true → jobOf (stateAfter s ran clock report) i .ended ≡ true
+  ended-here i li never t = its-end i li never ∙ ap (λ b. b || deadlineNext s i) t
 
   closed-slice : ClosedSlice s table clock report log (logAfter s ran report log) (stateAfter s ran clock report)
   closed-slice = record {
     handed = handed-on s ran clock report;
     done = λ i e one. log-done s table clock report log went i (below i e) e one;
     over = λ i c working. log-over s table clock report log went i (below i (c .0)) (c .0) working (c .1);
-    late = λ i li due unended working ends. log-late s table clock report log went i li (still-open i unended working ends) (due-tells s i .1 due);
+    late = λ i li due unended working ends. log-late s table clock report log went i li (still-open i unended working ends) (deadline-next-tells s i .1 due);
     still-open = λ i li no-due working ends.
-        ⊎-elim (log-ended s table clock report log went i li) (λ f. log-open s table clock report log went i li (still-open i f working ends) (not-yet s i _ (due-tells s i) no-due)) (bool-cases (jobOf s i .ended));
+        ⊎-elim (log-ended s table clock report log went i li) (λ f. log-open s table clock report log went i li (still-open i f working ends) (no-deadline i no-due)) (bool-cases (jobOf s i .ended));
     had-ended = λ i li. log-ended s table clock report log went i li;
     no-other = log-elsewhere s table clock report log went;
     log-length = log-length s table clock report log went;
     fresh-job = λ i li due. job-after s table clock report log went R i li ∙ job-anew s ran report i (release-tells s i .1 due);
-    one-used = λ i e not-due. ap (λ (j : Job). j .used) (served i e not-due);
-    ended-then = λ i e not-due one. ap (λ (j : Job). j .ended) (served i e not-due) ∙ rw (eq-eqb report 1 one);
-    ended-complete = λ i c not-due. ap (λ (j : Job). j .ended) (served i (c .0) not-due) ∙ rw (eq-eqb (jobOf s i .used + 1) (runtimeOf s i (currentOf s i)) (c .1)) (or-true (eqb report 1));
-    open-still = λ i e not-due working ends. ap (λ (j : Job). j .ended) (goes-on i (below i e) not-due) ∙ still-open i (who-runs s table (went .asked) i e .job-open) (λ _. working) ends;
-    others-same = λ i li ne not-due. goes-on i li not-due ∙ slice-elsewhere s ran report i ne;
+    closed-job = λ i li due never. its-end i li never ∙ ap (λ b. afterSlice s ran report i .ended || b) (deadline-next-tells s i .1 due) ∙ or-true (afterSlice s ran report i .ended);
+    one-used = λ i e never. its-used i (below i e) never ∙ ap (λ (j : Job). j .used) (slice-here s ran report i e);
+    none-used = λ i li ne never. its-used i li never ∙ ap (λ (j : Job). j .used) (slice-elsewhere s ran report i ne);
+    ended-then = λ i e never one. ended-here i (below i e) never (ap (λ (j : Job). j .ended) (slice-here s ran report i e) ∙ rw (eq-eqb report 1 one));
+    ended-complete = λ i c never.
+        ended-here i (below i (c .0)) never
+        (ap (λ (j : Job). j .ended) (slice-here s ran report i (c .0)) ∙ rw (eq-eqb (jobOf s i .used + 1) (runtimeOf s i (currentOf s i)) (c .1)) (or-true (eqb report 1)));
+    open-still = λ i e never not-due working ends. ap (λ (j : Job). j .ended) (goes-on i (below i e) never not-due) ∙ still-open i (who-runs s table (went .asked) i e .job-open) (λ _. working) ends;
+    others-same = λ i li ne never not-due. goes-on i li never not-due ∙ slice-elsewhere s ran report i ne;
   }
 
 module _ (s : State) (table : List ℕ) (clock report : ℕ) (log log′ : List ℕ) (r : Next) (S : Stepped s table clock report log log′ r) where
@@ -282,14 +301,18 @@ demand-1 = record {
   step-closed = step-closed;
   runtime = runtime-goes;
   period = period-goes;
+  deadline = deadline-goes;
   runtime-fewest = runtime-fewest;
   larger-tick-no-fewer = larger-tick-no-fewer;
   without-tick = without-tick;
   period-exact = period-exact;
-  task-whole = λ n runtime memory slice tick pos. period-exact n slice pos;
-  task-runtime = λ period micros memory slice tick less. runtime-fewest micros slice tick less;
-  task-no-period = λ micros runtime memory slice tick nz. none-of-refused (periodSlices micros slice) nz;
-  task-no-runtime = λ period micros memory slice tick nz. none-of-refused (runtimeSlices micros slice tick) nz;
+  deadline-latest = deadline-latest;
+  task-whole = λ n runtime memory due slice tick pos. period-exact n slice pos;
+  task-runtime = λ period micros memory due slice tick less. runtime-fewest micros slice tick less;
+  task-deadline = λ period runtime memory micros slice tick pos. deadline-latest micros slice pos;
+  task-no-period = λ micros runtime memory due slice tick nz. none-of-refused (periodSlices micros slice) nz;
+  task-no-runtime = λ period micros memory due slice tick nz. none-of-refused (runtimeSlices micros slice tick) nz;
+  task-no-deadline = λ period runtime memory micros slice tick nz. none-of-refused (deadlineSlices micros slice) nz;
   entry-said = entry-byte;
   refusal-said = refusal-number;
   logged-said = logged-byte;

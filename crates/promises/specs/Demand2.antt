@@ -33,16 +33,16 @@ pub record FirstLate (P : Plan) (task : ℕ) (margin : ℤ) : Type 0 where
   pub fails-first : FirstFailing P place
 
 -- What an accepted verdict gives: the cycle and the job count; the tightest task, than which none has a smaller margin, nor the
--- same and a better rank; and its margin, the period less the end of its first job.
+-- same and a better rank; and its margin, the deadline less the end of its first job.
 pub record AcceptedAs (l : TaskList) (a : Answer) : Type 0 where
   pub place : ℕ
   pub below : place < l .count
   pub named : a .task ≡ suc place
   pub cycle-is : a .cycle ≡ cycleOf l
   pub jobs-is : a .jobs ≡ jobsOf l
-  pub margin-is : a .margin ≡ pos (planOf l .period place - firstEnd (planOf l) place)
-  pub smallest : (j : ℕ) → j < l .count → planOf l .period place - firstEnd (planOf l) place ≤ planOf l .period j - firstEnd (planOf l) j
-  pub then-first : (j : ℕ) → j < l .count → planOf l .period place - firstEnd (planOf l) place ≡ planOf l .period j - firstEnd (planOf l) j → ranksBefore (keyIn (planOf l) 0) j place ≡ false
+  pub margin-is : a .margin ≡ pos (planOf l .due place - firstEnd (planOf l) place)
+  pub smallest : (j : ℕ) → j < l .count → planOf l .due place - firstEnd (planOf l) place ≤ planOf l .due j - firstEnd (planOf l) j
+  pub then-first : (j : ℕ) → j < l .count → planOf l .due place - firstEnd (planOf l) place ≡ planOf l .due j - firstEnd (planOf l) j → ranksBefore (keyIn (planOf l) 0) j place ≡ false
 
 -- The end of a first job that is on time: before that slice it has had its run-time, and before no earlier one.
 pub record EndsAt (P : Plan) (i e : ℕ) : Type 0 where
@@ -73,7 +73,8 @@ pub record Demand2 : Type 0 where
   -- What an accepted verdict gives, and what the end of a first job is.
   pub accepted-values : (l : TaskList) (supply : ℕ) → KeepsBounds l supply → judgedAs l supply .number ≡ 0 → AcceptedAs l (judgedAs l supply)
   pub first-end : (P : Plan) (i : ℕ) → OnTime P (P .runtime) i 0 → EndsAt P i (firstEnd P i)
-  -- The table of an accepted list is the rate-monotonic one, slice for slice,
+  -- The table of an accepted list is that of the slice rule by deadlines, slice for slice: where they are the periods, the
+  -- rate-monotonic one,
   pub table-is : (l : TaskList) (supply : ℕ) → KeepsBounds l supply → (old new : List ℕ) (v : Verdict) → Built l supply old new v → verdictAnswer v .number ≡ 0 → TableOf l old new
   -- each task filling exactly run-time times cycle / period entries.
   pub fills : (l : TaskList) (supply : ℕ) → KeepsBounds l supply → (old new : List ℕ) (v : Verdict) → Built l supply old new v → verdictAnswer v .number ≡ 0

@@ -44,7 +44,7 @@ use Rattle.readings.specs.declared.Refusal.{Refusal}
 use Rattle.readings.specs.declared.Logged.{Logged}
 use Rattle.readings.specs.Reading.{entryOf, refusalOf, loggedOf}
 use Rattle.units.specs.declared.Slices.{Slices}
-use Rattle.units.specs.Conversion.{runtimeSlices, periodSlices}
+use Rattle.units.specs.Conversion.{runtimeSlices, periodSlices, deadlineSlices}
 use Rattle.records.specs.declared.Parsed.{Parsed}
 use Rattle.records.specs.Grammar.{readOf, Reads}
 use Rattle.records.specs.Reading.{reads-one}
@@ -164,12 +164,15 @@ read-refusal number r r′ e e′ = one-answer e e′
 pub read-logged : (byte : ℕ) (r r′ : Logged) → r ≡ loggedOf byte → r′ ≡ loggedOf byte → r ≡ r′
 read-logged byte r r′ e e′ = one-answer e e′
 
--- units: runtime_slices, period_slices
+-- units: runtime_slices, period_slices, deadline_slices
 pub runtime-slices : (micros slice tick : ℕ) (r r′ : Slices) → r ≡ runtimeSlices micros slice tick → r′ ≡ runtimeSlices micros slice tick → r ≡ r′
 runtime-slices micros slice tick r r′ e e′ = one-answer e e′
 
 pub period-slices : (micros slice : ℕ) (r r′ : Slices) → r ≡ periodSlices micros slice → r′ ≡ periodSlices micros slice → r ≡ r′
 period-slices micros slice r r′ e e′ = one-answer e e′
+
+pub deadline-slices : (micros slice : ℕ) (r r′ : Slices) → r ≡ deadlineSlices micros slice → r′ ≡ deadlineSlices micros slice → r ≡ r′
+deadline-slices micros slice r r′ e e′ = one-answer e e′
 
 -- records: read_list
 pub read-list : (input : List ℕ) (r r′ : Parsed) → Reads input (readOf r) → Reads input (readOf r′) → r ≡ r′
@@ -197,8 +200,8 @@ pub write-no : (old new new′ : List ℕ) (r r′ : ℕ) → Written noText old
 write-no old new new′ r r′ W W′ = written-one W W′
 
 -- bench: task_in; close_slice and drive, with the lent bytes and ends
-pub task-in : (period runtime memory slice tick : ℕ) (r r′ : Task) → r ≡ taskIn period runtime memory slice tick → r′ ≡ taskIn period runtime memory slice tick → r ≡ r′
-task-in period runtime memory slice tick r r′ e e′ = one-answer e e′
+pub task-in : (period runtime memory deadline slice tick : ℕ) (r r′ : Task) → r ≡ taskIn period runtime memory deadline slice tick → r′ ≡ taskIn period runtime memory deadline slice tick → r ≡ r′
+task-in period runtime memory deadline slice tick r r′ e e′ = one-answer e e′
 
 pub close-slice : (table : List ℕ) (need : Demand) (c : Course) (log log′ ends ends′ : List ℕ) (r r′ : Next)
     → SliceClosed table need c log ends r → SliceClosed table need c log′ ends′ r′ → (r ≡ r′) × (log ≡ log′) × (ends ≡ ends′)

@@ -2,24 +2,24 @@
 -- passed, it is not written again, and it becomes 1 by the report finished of that very job alone.
 use mathlib.Core.Path.{_≡_, refl, sym, ap, subst, _∙_}
 use mathlib.Core.List.{List}
-use mathlib.Core.Bool.{Bool, true, false, true≢false, _&&_}
+use mathlib.Core.Bool.{Bool, true, false, true≢false, or-false, _&&_, _||_}
 use mathlib.Core.Logic.{⊎-elim}
 use Prim.Native.Nat.{ℕ, suc, _+_, _/_, _≤_, _<_}
 use native.Mathlib.Omega.{arith}
 use lib.Dec.{eqb}
 use borrow.Author.Tests.{ne-eqb, eqb-true}
 use lib.ListN.{getD}
-use Rattle.basis.specs.Choose.{choose, both-true, bool-cases, le-or-lt, eq-or-ne}
+use Rattle.basis.specs.Choose.{choose, both-true, bool-cases, le-or-lt, eq-or-ne, either-false}
 use Rattle.plan.specs.Plan.{Plan, Sound, release, deadline, job, age}
 use Rattle.plan.specs.Run.{goes-on-or-ends, job-goes-on as job-stays, job-anew as job-follows, age-below, release-age}
 use Rattle.plan.specs.Progress.{releases-grow}
 use Rattle.run.specs.declared.State.{State}
 use Rattle.run.specs.State.{Job, fresh, currentOf, jobOf, deadlineNext, releaseNext, offset, place}
 use Rattle.run.specs.Who.{running}
-use Rattle.run.specs.Step.{afterSlice, jobAfter, stateAfter, logAfter}
+use Rattle.run.specs.Step.{afterSlice, jobAfter, stateAfter, logAfter, closedAt}
 use Rattle.run.specs.Sound.{SoundState}
 use Rattle.run.specs.Accepted.{StepAccepted, who-runs}
-use Rattle.run.specs.StateAfter.{slice-here, slice-elsewhere, job-anew, job-goes-on, open-not-late, HandedOn, handed-on, state-after-sound}
+use Rattle.run.specs.StateAfter.{slice-here, slice-elsewhere, job-anew, job-closed, HandedOn, handed-on, state-after-sound}
 use Rattle.run.specs.LogAfter.{byteAfter, log-byte, log-done, log-over, log-late, log-open, log-ended}
 use Rattle.promises.specs.Carries.{Carries, carries-on, in-state, current-is, place-is, job-in, deadline-follows, release-follows, no-release-follows, job-then, other-stays}
 
@@ -132,8 +132,18 @@ module _ (P : Plan) (S : Sound P) (cycle : ℕ) (s : State) (tab : List ℕ) (cl
       no-release : releaseNext s i ≡ false
       no-release = no-release-follows (H .carries) refl i li on
 
-      same-part : jobOf after i .ended ≡ afterSlice s ran report i .ended
-      same-part = ap (λ (j : Job). j .ended) (next-is ∙ job-goes-on s ran report i no-release)
+      next-ended : jobOf after i .ended ≡ (afterSlice s ran report i .ended || deadlineNext s i)
+      unfolding closedAt
+      next-ended = ap (λ (j : Job). j .ended) (next-is ∙ job-closed s ran report i no-release)
+
+      -- it has ended in this slice or before, or is closed at its deadline
+      ended-or-closed : jobOf after i .ended ≡ true → byteOf after log i k ≡ 0 → ⊥
+      ended-or-closed t z =
+          ⊎-elim
+          (λ (due : deadlineNext s i ≡ true). late-written due z)
+          (λ (not-due : deadlineNext s i ≡ false).
+          ended-written (sym (or-false (afterSlice s ran report i .ended)) ∙ ap (λ b. afterSlice s ran report i .ended || b) (sym not-due) ∙ sym next-ended ∙ t) z)
+          (bool-cases (deadlineNext s i))
 
     -- or this was its last slice
     module _ (end : suc (age P i (s .position)) ≡ P .period i) where
@@ -155,9 +165,9 @@ module _ (P : Plan) (S : Sound P) (cycle : ℕ) (s : State) (tab : List ℕ) (cl
     current-tells = record {
       to-come = λ l. absurd (omega (arith, floor, next-slice));
       current-open = λ e f. two-ways
-          (λ on. open-unwritten (sym (same-part on) ∙ f) (open-not-late s ran report i (no-release on) (ap (λ (j : Job). j .ended) (sym next-is) ∙ f)))
+          (λ on. let h = either-false (afterSlice s ran report i .ended) (deadlineNext s i) .0 (sym (next-ended on) ∙ f) in open-unwritten (h .0) (h .1))
           (λ end. absurd (omega (arith, next-job end)));
-      current-ended = λ e t z. two-ways (λ on. ended-written (sym (same-part on) ∙ t) z) (λ end. omega (arith, next-job end));
+      current-ended = λ e t z. two-ways (λ on. ended-or-closed on t z) (λ end. omega (arith, next-job end));
       passed = λ l z.
           ⊎-elim
           (λ (e : suc (age P i (s .position)) ≡ P .due i). late-written (deadline-follows (H .carries) refl i li e) z)

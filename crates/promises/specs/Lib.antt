@@ -26,4 +26,6 @@ pub mod RunOnA
 pub mod Wrong
 pub mod Viewer
 pub mod ViewerHolds
+pub mod Deadlines
+pub mod DeadlinesHold
 pub mod Determined

@@ -23,10 +23,10 @@ use Rattle.promises.specs.Demand2.{judgedAs}
 abbrev pub askedAs : TaskList → ℕ → Answer
 askedAs l supply = quickAnswer (quickOf l supply)
 
--- t is a multiple of the period of task i, or of the period of a task ranking before it, up to its own period.
+-- t is a multiple of the period of task i, or of the period of a task ranking before it, up to its own deadline.
 pub record MultipleUpTo (l : TaskList) (i t : ℕ) : Type 0 where
   pub from-1 : 1 ≤ t
-  pub to-period : t ≤ taskAt (l .tasks) i .period
+  pub to-deadline : t ≤ taskAt (l .tasks) i .deadline
   pub task : ℕ
   pub below : task < l .count
   pub ranks : (task ≡ i) ⊎ (ranksBefore (keyIn (planOf l) 0) task i ≡ true)
@@ -54,8 +54,9 @@ pub record QuickQuestion : Type 0 where
   pub no-more : (l : TaskList) (supply : ℕ) → askedAs l supply ≡ refusal (askedAs l supply .number) (askedAs l supply .task)
   -- 7 names the first-ranking task that fails the test.
   pub seven-names : (l : TaskList) (supply : ℕ) → askedAs l supply .number ≡ 7 → (i : ℕ) × ((askedAs l supply .task ≡ suc i) × FirstFailing (planOf l) i)
-  -- The points of a task are the multiples of its period and of the periods of those ranking before it, up to its own period,
-  pub points-are : (l : TaskList) (supply : ℕ) → KeepsBounds l supply → (i : ℕ) → i < l .count → (t : ℕ) → Among t (points (planOf l) i) ↔ MultipleUpTo l i t
+  -- The points of a task are the multiples of its period and of the periods of those ranking before it, up to its own deadline, and
+  -- the deadline itself,
+  pub points-are : (l : TaskList) (supply : ℕ) → KeepsBounds l supply → (i : ℕ) → i < l .count → (t : ℕ) → Among t (points (planOf l) i) ↔ ((t ≡ taskAt (l .tasks) i .deadline) ⊎ MultipleUpTo l i t)
   -- in rising order; and at these alone a task passes exactly if it does at some slice from 1 to its deadline.
   pub points-rise : (P : Plan) (i : ℕ) → Rising 0 (points P i)
   pub points-enough : (P : Plan) → Sound P → (i : ℕ) → i < P .count → PassesAtOne P i ↔ Passes P i

@@ -3,7 +3,7 @@
 use mathlib.Core.Path.{_≡_, refl, sym, ap, subst, _∙_}
 use mathlib.Core.Bool.{Bool, true, false, true≢false, _||_}
 use mathlib.Core.List.{List, [], _∷_}
-use mathlib.Core.Logic.{inl, inr, ⊎-elim, _↔_}
+use mathlib.Core.Logic.{_⊎_, inl, inr, ⊎-elim, _↔_}
 use Prim.Native.Nat.{ℕ, zero, suc, _/_, _%_, _≤_, _<_}
 use native.Mathlib.Omega.{arith}
 use native.Mathlib.Nat.{div-add-mod'}
@@ -103,25 +103,25 @@ module _ (l : TaskList) (supply : ℕ) where
       (late .place, (same .task (λ z. omega arith) ∙ late .named, late .fails-first))
     where
       seven-keeps : judgedAs l supply .number ≡ 7 → KeepsBounds l supply
-      seven-keeps late = ⊎-elim (λ (h : ByBounds l supply (verdictOf l supply)). absurd (omega (arith, h .to-6, late, ap (λ (v : Verdict). verdictAnswer v .number) (h .is)))) (⊎-elim (λ (h : ForLateness l supply (verdictOf l supply)). h .keeps) (λ (h : OnTimeAll l supply (verdictOf l supply)). h .keeps)) (verdict-tells l supply)
+      seven-keeps late = ⊎-elim (λ (h : ByBounds l supply (verdictOf l supply)). absurd (h .not-7 (sym (ap (λ (v : Verdict). verdictAnswer v .number) (h .is)) ∙ late))) (⊎-elim (λ (h : ForLateness l supply (verdictOf l supply)). h .keeps) (λ (h : OnTimeAll l supply (verdictOf l supply)). h .keeps)) (verdict-tells l supply)
 
 -- ---- the points
 module _ (l : TaskList) (supply : ℕ) (K : KeepsBounds l supply) (i : ℕ) (li : i < l .count) where
-  -- What is a point of the list's plan is such a multiple, the deadline being one too,
-  point-multiple : (t : ℕ) → Point (planOf l) i t → MultipleUpTo l i t
+  -- What is a point of the list's plan is its deadline or such a multiple,
+  point-multiple : (t : ℕ) → Point (planOf l) i t → (t ≡ taskAt (l .tasks) i .deadline) ⊎ MultipleUpTo l i t
   unfolding planOf
   point-multiple t p =
       ⊎-elim
-      (λ (e : t ≡ taskAt (l .tasks) i .period). record { from-1 = p .from-1; to-period = p .to-deadline; task = i; below = li; ranks = inl refl; times = 1; is = omega arith })
-      (λ (m : Multiple (planOf l) i t). record {
+      (λ (e : t ≡ taskAt (l .tasks) i .deadline). inl e)
+      (λ (m : Multiple (planOf l) i t). inr (record {
         from-1 = p .from-1;
-        to-period = p .to-deadline;
+        to-deadline = p .to-deadline;
         task = m .task;
         below = m .below;
         ranks = level-tells (planOf l) i (m .task) (m .level);
         times = t / taskAt (l .tasks) (m .task) .period;
         is = omega (arith, m .divides, div-add-mod' t (taskAt (l .tasks) (m .task) .period));
-      })
+      }))
       (p .is)
 
   -- and the other way round.
@@ -129,7 +129,7 @@ module _ (l : TaskList) (supply : ℕ) (K : KeepsBounds l supply) (i : ℕ) (li 
   unfolding planOf
   multiple-point t m = record {
     from-1 = m .from-1;
-    to-deadline = m .to-period;
+    to-deadline = m .to-deadline;
     is = inr (record {
       task = m .task;
       below = m .below;
@@ -141,8 +141,12 @@ module _ (l : TaskList) (supply : ℕ) (K : KeepsBounds l supply) (i : ℕ) (li 
       period : ℕ
       period = taskAt (l .tasks) (m .task) .period
 
-  list-points : (t : ℕ) → Among t (points (planOf l) i) ↔ MultipleUpTo l i t
-  list-points t = let h = points-are (planOf l) i t in (λ a. point-multiple t (h .0 a), λ m. h .1 (multiple-point t m))
+  deadline-point : (t : ℕ) → t ≡ taskAt (l .tasks) i .deadline → Point (planOf l) i t
+  unfolding planOf
+  deadline-point t e = record { from-1 = omega (arith, K .fits i li .runtime-from, K .fits i li .deadline-from); to-deadline = omega arith; is = inl e }
+
+  list-points : (t : ℕ) → Among t (points (planOf l) i) ↔ ((t ≡ taskAt (l .tasks) i .deadline) ⊎ MultipleUpTo l i t)
+  list-points t = let h = points-are (planOf l) i t in (λ a. point-multiple t (h .0 a), λ m. h .1 (⊎-elim (deadline-point t) (multiple-point t) m))
 
 -- ---- the test at the points
 module _ (P : Plan) (i : ℕ) where

@@ -1,7 +1,7 @@
 -- What the state and the log of a drive are before each slice: the jobs as far as the plan's run has brought them.
 use mathlib.Core.Path.{_≡_, refl, sym, ap, subst, _∙_}
 use mathlib.Core.List.{List}
-use mathlib.Core.Bool.{true, false, _||_}
+use mathlib.Core.Bool.{true, false, true≢false, _||_}
 use mathlib.Core.Logic.{⊎-elim}
 use Prim.Native.Nat.{ℕ, zero, suc, _+_, _/_, _≤_, _<_, min}
 use native.Mathlib.Omega.{arith}
@@ -174,17 +174,6 @@ module _ (P : Plan) (S : Sound P) (cycle : ℕ)
         subst (λ (x : ℕ). HasHad (afterSlice s x report i) now-had (need i k) (P .runtime i k)) (sym ran-is)
         (slice-brings s (entry P d p) i (had P d p i) (need i k) (P .runtime i k) report (R .jobs-are lp i li) (runtime-now (R .carries) (R .position-is) i li) (reports i li))
 
-    -- ---- the next job
-    job-next-is : suc p < cycle → HasHad (jobAfter s ran report i) (had P d (suc p) i) (need i (job P i (suc p))) (P .runtime i (job P i (suc p)))
-    unfolding takes
-    job-next-is follows =
-        ⊎-elim
-        (λ (l : suc (age P i p) < P .period i).
-        rw (job-goes-on s ran report i (no-release-follows (R .carries) (R .position-is) i li l), had-goes-on P S d i li p l, job-stays P S i li p l) after-slice)
-        (λ (e : suc (age P i p) ≡ P .period i).
-        rw (job-anew s ran report i (release-follows (R .carries) (R .position-is) i li e), had-anew P S d i li p e) (fresh-has (need i (job P i (suc p))) (P .runtime i (job P i (suc p))) (some i (job P i (suc p)) li (job-in (R .carries) (R .is-sound) i (suc p) li follows))))
-        (goes-on-or-ends P S i li p)
-
     -- ---- its byte
     on-time-so-far : OnTimeUpTo P d p
     on-time-so-far = on-time-before P d p cycle (omega arith) on
@@ -200,6 +189,26 @@ module _ (P : Plan) (S : Sound P) (cycle : ℕ)
     not-late l =
         no-deadline-follows (R .carries) (R .position-is) i li
         (λ e. omega (arith, enough i k li, had-by-deadline P S d i li p (on-time-before P d (suc p) cycle lp on) e))
+
+    -- ---- the next job
+    -- by its deadline a job has ended, so that it is not closed open
+    ended-by-deadline : deadlineNext s i ≡ true → afterSlice s ran report i .ended ≡ true
+    unfolding takes
+    ended-by-deadline t =
+        ⊎-elim
+        (λ (full : b ≤ now-had). after-slice .ended-is ∙ le-leb b now-had full)
+        (λ (short : now-had < b). absurd (true≢false (sym t ∙ not-late short)))
+        (le-or-lt b now-had)
+
+    job-next-is : suc p < cycle → HasHad (jobAfter s ran report i) (had P d (suc p) i) (need i (job P i (suc p))) (P .runtime i (job P i (suc p)))
+    unfolding takes
+    job-next-is follows =
+        ⊎-elim
+        (λ (l : suc (age P i p) < P .period i).
+        rw (job-goes-on s ran report i (no-release-follows (R .carries) (R .position-is) i li l) ended-by-deadline, had-goes-on P S d i li p l, job-stays P S i li p l) after-slice)
+        (λ (e : suc (age P i p) ≡ P .period i).
+        rw (job-anew s ran report i (release-follows (R .carries) (R .position-is) i li e), had-anew P S d i li p e) (fresh-has (need i (job P i (suc p))) (P .runtime i (job P i (suc p))) (some i (job P i (suc p)) li (job-in (R .carries) (R .is-sound) i (suc p) li follows))))
+        (goes-on-or-ends P S i li p)
 
     li-state : i < s .count
     li-state = in-state (R .carries) i li

@@ -30,13 +30,14 @@ module _ (l : TaskList) where
   abbrev pub more-than-16 : Rule
   more-than-16 = rule 2 (16 < l .count)
 
-  -- Task i is the first of which this is so, period and run-time of those before it being within bounds.
+  -- Task i is the first of which this is so, period, run-time and deadline of those before it being within bounds.
   pub record FirstWith (Broken : Task → Type 0) (i : ℕ) : Type 0 where
     pub below : i < l .count
     pub before-fit : (j : ℕ) → j < i → TaskFits (task j)
     pub broken : Broken (task i)
 
-  -- 3: period outside 1 to 4,096. 4: run-time 0 or above the period. Both name that task.
+  -- 3: period outside 1 to 4,096. 4: run-time 0 or above the period. 20: deadline below the run-time or above the period, after 4 for
+  -- the same task. Each names that task.
   abbrev pub PeriodOutside : Task → Type 0
   PeriodOutside t = (t .period ≡ 0) ⊎ (4096 < t .period)
 
@@ -48,6 +49,12 @@ module _ (l : TaskList) where
 
   abbrev pub runtime-outside : Rule
   runtime-outside = naming 4 (FirstWith RuntimeOutside)
+
+  abbrev pub DeadlineOutside : Task → Type 0
+  DeadlineOutside t = (PeriodOutside t → ⊥) × (RuntimeOutside t → ⊥) × ((t .deadline < t .runtime) ⊎ (t .period < t .deadline))
+
+  abbrev pub deadline-outside : Rule
+  deadline-outside = naming 20 (FirstWith DeadlineOutside)
 
   -- Task i is the first with which a running number is above a bound.
   pub record FirstAbove (running : ℕ → ℕ) (bound i : ℕ) : Type 0 where
@@ -74,9 +81,9 @@ module _ (l : TaskList) where
   abbrev pub log-short-for : ℕ → Rule
   log-short-for room = rule 12 (room < jobsOf l)
 
-  -- Lists go 1, 2, then 3 and 4 task by task, then 5, 6, 7. Table building adds 8 last; start adds 12 last.
+  -- Lists go 1, 2, then 3, 4 and 20 task by task, then 5, 6, 7. Table building adds 8 last; start adds 12 last.
   unfoldable pub boundsRules : ℕ → Rules
-  boundsRules supply = no-tasks then more-than-16 then period-outside then runtime-outside then memory-exceeds supply then cycle-above then no-more
+  boundsRules supply = no-tasks then more-than-16 then period-outside then runtime-outside then deadline-outside then memory-exceeds supply then cycle-above then no-more
 
   unfoldable pub listRules : ℕ → Rules
   listRules supply = boundsRules supply andThen (deadline-missed then no-more)
@@ -126,9 +133,12 @@ module _ (s : State) (table : List ℕ) where
 
 -- ---- conversions
 -- 17: slice length 0; of a run-time, a tick cost that is not below the slice length; a period that is not a whole number of
--- slices.
+-- slices. Of a deadline, slice length 0 alone.
 abbrev pub no-share : ℕ → ℕ → Rule
 no-share slice tick = rule 17 ((slice ≡ 0) ⊎ (slice ≤ tick))
 
 abbrev pub not-whole : ℕ → ℕ → Rule
 not-whole micros slice = rule 17 ((slice ≡ 0) ⊎ ((n : ℕ) → micros ≡ n * slice → ⊥))
+
+abbrev pub no-length : ℕ → Rule
+no-length slice = rule 17 (slice ≡ 0)

@@ -12,7 +12,7 @@ use lib.ListN.{length, getD}
 use borrow.Author.Tests.{lt-ltb, ltb-true, le-leb, leb-true, eq-eqb, ne-eqb, eqb-true, eqb-false}
 use Rattle.basis.specs.Choose.{choose, both-true, choose-yes, choose-no, choose-either, of-choice, bool-cases, le-or-lt, eq-or-ne, within, within-tells, is-within}
 use Rattle.basis.specs.Answer.{Answer, alike, refusal, clash, none, _orElse_, firstFound, none-number, else-choose, found-none, none-found}
-use Rattle.basis.specs.Rules.{rule, saying, Breaks, no-more, _then_, _andThen_, Refused, GoesBy, goes-on, goes-then, goes-as, Refuses, plain-refuses, breaks-saying, breaks-naming, saying-told, goes-by-rule, goes-unless, first-goes}
+use Rattle.basis.specs.Rules.{naming, rule, saying, Breaks, no-more, _then_, _andThen_, Refused, GoesBy, goes-on, goes-then, goes-as, Refuses, plain-refuses, breaks-saying, breaks-naming, saying-told, goes-by-rule, goes-unless, first-goes}
 use Rattle.plan.specs.Plan.{given}
 use Rattle.plan.specs.ExactTest.{AllPass, fails-first-alone}
 use Rattle.tasks.specs.declared.Task.{Task}
@@ -37,25 +37,31 @@ use Rattle.run.specs.Sound.{sound-tells}
 use Rattle.run.specs.Who.{running, of9, of10, of11By, of11, whoFound, ofEntry, answered, whoOf, runnerAnswer}
 use Rattle.run.specs.Step.{of12, nextClock, of13, of14, stepFound, Stepped, closedAnswer, closed-number}
 use Rattle.units.specs.declared.Slices.the-variants.{Count, Refused as NoSlices}
-use Rattle.units.specs.Conversion.{runtimeSlices, periodSlices, slicesAnswer}
+use Rattle.units.specs.Conversion.{runtimeSlices, periodSlices, slicesAnswer, deadlineSlices}
 use Rattle.units.specs.Laws.{period-accepted, period-refused}
 use Rattle.promises.specs.Demand2.{FirstLate}
 use Rattle.promises.specs.Demand2Holds.{not-by-bounds, accepted-exactly, late-named}
-use Rattle.promises.specs.Refusals.{no-tasks, more-than-16, FirstWith, PeriodOutside, RuntimeOutside, period-outside, runtime-outside, FirstAbove, memory-exceeds, cycle-above, deadline-missed, table-short, log-short-for, boundsRules, listRules, buildRules, startRules, Follows, one-more, wraps, not-sound, run-over, no-entry, log-short, clock-wrong, report-wrong, whoRules, stepRules, no-share, not-whole}
+use Rattle.promises.specs.Refusals.{no-tasks, more-than-16, FirstWith, PeriodOutside, RuntimeOutside, DeadlineOutside, period-outside, runtime-outside, deadline-outside, FirstAbove, memory-exceeds, cycle-above, deadline-missed, table-short, log-short-for, boundsRules, listRules, buildRules, startRules, Follows, one-more, wraps, not-sound, run-over, no-entry, log-short, clock-wrong, report-wrong, whoRules, stepRules, no-share, not-whole, no-length}
 
--- ---- refusals 1 to 6
-outside-tells : (high x : ℕ) → (not (within 1 high x) ≡ true) ↔ ((x ≡ 0) ⊎ (high < x))
-outside-tells high x = (
+-- ---- refusals 1 to 6 and 20
+outside : (low high x : ℕ) → (not (within low high x) ≡ true) ↔ ((x < low) ⊎ (high < x))
+outside low high x = (
   λ e.
       ⊎-elim
-      (λ (a : 1 ≤ x). ⊎-elim (λ (b : x ≤ high). absurd (true≢false (sym e ∙ ap not (is-within 1 high x a b)))) (λ (b : high < x). inr b) (le-or-lt x high))
-      (λ (a : x < 1). inl (omega arith))
-      (le-or-lt 1 x),
+      (λ (a : low ≤ x). ⊎-elim (λ (b : x ≤ high). absurd (true≢false (sym e ∙ ap not (is-within low high x a b)))) (λ (b : high < x). inr b) (le-or-lt x high))
+      (λ (a : x < low). inl a)
+      (le-or-lt low x),
   λ h.
       ⊎-elim
-      (λ (t : within 1 high x ≡ true). absurd (⊎-elim (λ (z : x ≡ 0). omega (arith, within-tells 1 high x t)) (λ (a : high < x). omega (arith, within-tells 1 high x t)) h))
-      (λ (f : within 1 high x ≡ false). ap not f)
-      (bool-cases (within 1 high x)),
+      (λ (t : within low high x ≡ true). absurd (⊎-elim (λ (a : x < low). omega (arith, within-tells low high x t)) (λ (a : high < x). omega (arith, within-tells low high x t)) h))
+      (λ (f : within low high x ≡ false). ap not f)
+      (bool-cases (within low high x)),
+)
+
+outside-tells : (high x : ℕ) → (not (within 1 high x) ≡ true) ↔ ((x ≡ 0) ⊎ (high < x))
+outside-tells high x = (
+  λ e. ⊎-elim (λ (a : x < 1). inl (omega arith)) (λ (a : high < x). inr a) (outside 1 high x .0 e),
+  λ h. outside 1 high x .1 (⊎-elim (λ (z : x ≡ 0). inl (omega arith)) (λ (a : high < x). inr a) h),
 )
 
 module _ (l : TaskList) where
@@ -69,13 +75,16 @@ module _ (l : TaskList) where
       (goes-on (no-tasks l then no-more) (more-than-16 l then no-more) _ _ (goes-by-rule 0 _ (eqb (l .count) 0) none none-number (eqb-true (l .count) 0) (eq-eqb (l .count) 0))
       (λ _. goes-by-rule 1 _ (ltb 16 (l .count)) none none-number (ltb-true 16 (l .count)) (lt-ltb 16 (l .count))))
 
-  -- what breaks 3 or 4 does not fit
+  -- what breaks 3, 4 or 20 does not fit
   period-unfit : (t : Task) → PeriodOutside l t → TaskFits t → ⊥
   period-unfit t (inl z) fits = omega (arith, fits .period-from)
   period-unfit t (inr h) fits = omega (arith, fits .period-to)
 
   runtime-unfit : (t : Task) → RuntimeOutside l t → TaskFits t → ⊥
   runtime-unfit t h fits = ⊎-elim (λ (z : t .runtime ≡ 0). omega (arith, fits .runtime-from)) (λ (a : t .period < t .runtime). omega (arith, fits .runtime-to)) (h .1)
+
+  deadline-unfit : (t : Task) → DeadlineOutside l t → TaskFits t → ⊥
+  deadline-unfit t h fits = ⊎-elim (λ (a : t .deadline < t .runtime). omega (arith, fits .deadline-from)) (λ (a : t .period < t .deadline). omega (arith, fits .deadline-to)) (h .2)
 
   -- so there is one first task alone
   first-alone : (Broken Other : Task → Type 0) → ((t : Task) → Broken t → TaskFits t → ⊥) → ((t : Task) → Other t → TaskFits t → ⊥) → (i j : ℕ) → FirstWith l Broken i → FirstWith l Other j → i ≡ j
@@ -104,51 +113,84 @@ module _ (l : TaskList) where
     unfolding ofTask ofNumbers
     four h = choose-no _ _ _ (period-within (h .0)) ∙ choose-yes _ _ _ (outside-tells (task i .period) (task i .runtime) .1 (h .1))
 
-    refused-3-4 : i < l .count → firstFound (ofTask (l .tasks)) i .number ≡ 0 → (ofTask (l .tasks) i .number ≡ 0 → ⊥) → Refused (period-outside l then runtime-outside l then no-more) (ofTask (l .tasks) i)
-    unfolding Refused ofTask ofNumbers
-    refused-3-4 li before some =
-        ⊎-elim
-        (λ (t : not (within 1 4096 (task i .period)) ≡ true).
-        let h = outside-tells 4096 (task i .period) .0 t in
-        inl (subst (Breaks (period-outside l)) (sym (three h)) (breaks-naming 2 _ i (first (PeriodOutside l) h))))
-        (λ (f : not (within 1 4096 (task i .period)) ≡ false).
-        ⊎-elim
-        (λ (t : not (within 1 (task i .period) (task i .runtime)) ≡ true).
-        let h : RuntimeOutside l (task i) = (λ p. true≢false (sym (outside-tells 4096 (task i .period) .1 p) ∙ f), outside-tells (task i .period) (task i .runtime) .0 t) in
+    runtime-within : (PeriodOutside l (task i) → ⊥) → (RuntimeOutside l (task i) → ⊥) → not (within 1 (task i .period) (task i .runtime)) ≡ false
+    runtime-within fits not-so =
+        ⊎-elim (λ t. absurd (not-so (fits, outside-tells (task i .period) (task i .runtime) .0 t))) (λ f. f) (bool-cases (not (within 1 (task i .period) (task i .runtime))))
+
+    twenty : DeadlineOutside l (task i) → ofTask (l .tasks) i ≡ refusal 20 (suc i)
+    unfolding ofTask ofNumbers
+    twenty h =
+        choose-no _ _ _ (period-within (h .0)) ∙ choose-no _ _ _ (runtime-within (h .0) (h .1)) ∙ choose-yes _ _ _ (outside (task i .runtime) (task i .period) (task i .deadline) .1 (h .2))
+
+    module _ (li : i < l .count) (before : firstFound (ofTask (l .tasks)) i .number ≡ 0) where
+      first : (Broken : Task → Type 0) → Broken (task i) → FirstWith l Broken i
+      first Broken b = record { below = li; before-fit = fit-before i .0 before; broken = b }
+
+      -- nothing else breaks a rule of which another task would be the first
+      not-by : (number : ℕ) (Broken Other : Task → Type 0) → ((t : Task) → Broken t → TaskFits t → ⊥) → ((t : Task) → Other t → TaskFits t → ⊥) → Broken (task i) → (Other (task i) → ⊥) → (b : Answer) → Breaks (naming (suc number) (FirstWith l Other)) b → ⊥
+      not-by number Broken Other unfit other-unfit h not-so b breaks =
+          let other = saying-told number _ _ b breaks in
+          let same = first-alone Other Broken other-unfit unfit (other .0) i (other .1 .0) (first Broken h) in
+          not-so (subst (λ (x : ℕ). Other (task x)) same (other .1 .0 .broken))
+
+      -- by 3, by 4 or by 20
+      by-period : PeriodOutside l (task i) → Refused (period-outside l then runtime-outside l then deadline-outside l then no-more) (ofTask (l .tasks) i)
+      unfolding Refused
+      by-period h = inl (subst (Breaks (period-outside l)) (sym (three h)) (breaks-naming 2 _ i (first (PeriodOutside l) h)))
+
+      by-runtime : RuntimeOutside l (task i) → Refused (period-outside l then runtime-outside l then deadline-outside l then no-more) (ofTask (l .tasks) i)
+      unfolding Refused
+      by-runtime h = inr (
+        not-by 2 (RuntimeOutside l) (PeriodOutside l) runtime-unfit period-unfit h (h .0),
+        inl (subst (Breaks (runtime-outside l)) (sym (four h)) (breaks-naming 3 _ i (first (RuntimeOutside l) h))),
+      )
+
+      by-deadline : DeadlineOutside l (task i) → Refused (period-outside l then runtime-outside l then deadline-outside l then no-more) (ofTask (l .tasks) i)
+      unfolding Refused
+      by-deadline h = inr (
+        not-by 2 (DeadlineOutside l) (PeriodOutside l) deadline-unfit period-unfit h (h .0),
         inr (
-          λ b breaks.
-              let other = saying-told 2 _ _ b breaks in
-              let same = first-alone (PeriodOutside l) (RuntimeOutside l) period-unfit runtime-unfit (other .0) i (other .1 .0) (first (RuntimeOutside l) h) in
-              h .0 (subst (λ (x : ℕ). PeriodOutside l (task x)) same (other .1 .0 .broken)),
-          inl (subst (Breaks (runtime-outside l)) (sym (four h)) (breaks-naming 3 _ i (first (RuntimeOutside l) h))),
-        ))
-        (λ (g : not (within 1 (task i .period) (task i .runtime)) ≡ false). absurd (some (fits-none f g)))
-        (bool-cases (not (within 1 (task i .period) (task i .runtime)))))
-        (bool-cases (not (within 1 4096 (task i .period))))
-      where
-        first : (Broken : Task → Type 0) → Broken (task i) → FirstWith l Broken i
-        first Broken b = record { below = li; before-fit = fit-before i .0 before; broken = b }
+          not-by 3 (DeadlineOutside l) (RuntimeOutside l) deadline-unfit runtime-unfit h (h .1),
+          inl (subst (Breaks (deadline-outside l)) (sym (twenty h)) (breaks-naming 19 _ i (first (DeadlineOutside l) h))),
+        ),
+      )
 
-        fits-none : not (within 1 4096 (task i .period)) ≡ false → not (within 1 (task i .period) (task i .runtime)) ≡ false → ofTask (l .tasks) i .number ≡ 0
-        fits-none f g = ap (λ (a : Answer). a .number) (choose-no _ _ _ f ∙ choose-no _ _ _ g) ∙ none-number
+      refused-task : (ofTask (l .tasks) i .number ≡ 0 → ⊥) → Refused (period-outside l then runtime-outside l then deadline-outside l then no-more) (ofTask (l .tasks) i)
+      unfolding ofTask ofNumbers
+      refused-task some =
+          ⊎-elim
+          (λ (t : not (within 1 4096 (task i .period)) ≡ true). by-period (outside-tells 4096 (task i .period) .0 t))
+          (λ (f : not (within 1 4096 (task i .period)) ≡ false).
+          let period-fits : PeriodOutside l (task i) → ⊥ = λ p. true≢false (sym (outside-tells 4096 (task i .period) .1 p) ∙ f) in
+          ⊎-elim
+          (λ (t : not (within 1 (task i .period) (task i .runtime)) ≡ true). by-runtime (period-fits, outside-tells (task i .period) (task i .runtime) .0 t))
+          (λ (g : not (within 1 (task i .period) (task i .runtime)) ≡ false).
+          ⊎-elim
+          (λ (t : not (within (task i .runtime) (task i .period) (task i .deadline)) ≡ true).
+          by-deadline (period-fits, λ r. true≢false (sym (outside-tells (task i .period) (task i .runtime) .1 (r .1)) ∙ g), outside (task i .runtime) (task i .period) (task i .deadline) .0 t))
+          (λ (h : not (within (task i .runtime) (task i .period) (task i .deadline)) ≡ false).
+          absurd (some (ap (λ (a : Answer). a .number) (choose-no _ _ _ f ∙ choose-no _ _ _ g ∙ choose-no _ _ _ h) ∙ none-number)))
+          (bool-cases (not (within (task i .runtime) (task i .period) (task i .deadline)))))
+          (bool-cases (not (within 1 (task i .period) (task i .runtime)))))
+          (bool-cases (not (within 1 4096 (task i .period))))
 
-  tasks-go : GoesBy (period-outside l then runtime-outside l then no-more) (firstFound (ofTask (l .tasks)) (l .count))
+  -- the task that a rule names is the first that is found
+  named-first : (number : ℕ) (Broken : Task → Type 0) → ((i : ℕ) → Broken (task i) → ofTask (l .tasks) i ≡ refusal (suc number) (suc i)) → (b : Answer) → Breaks (naming (suc number) (FirstWith l Broken)) b
+      → (i : ℕ) × ((i < l .count) × (firstFound (ofTask (l .tasks)) i .number ≡ 0) × (ofTask (l .tasks) i ≡ b))
+  named-first number Broken is b breaks =
+      let h = saying-told number _ _ b breaks in
+      let first = h .1 .0 in
+      (h .0, (first .below, fit-before (h .0) .1 (first .before-fit), is (h .0) (first .broken) ∙ h .1 .1))
+
+  tasks-go : GoesBy (period-outside l then runtime-outside l then deadline-outside l then no-more) (firstFound (ofTask (l .tasks)) (l .count))
   unfolding Refused
   tasks-go =
-      first-goes _ (ofTask (l .tasks)) (l .count) refused-3-4
+      first-goes _ (ofTask (l .tasks)) (l .count) refused-task
       (λ b R.
-      ⊎-elim
-      (λ (breaks : Breaks (period-outside l) b).
-      let h = saying-told 2 _ _ b breaks in
-      let first = h .1 .0 in
-      (h .0, (first .below, fit-before (h .0) .1 (first .before-fit), three (h .0) (first .broken) ∙ h .1 .1)))
+      ⊎-elim (named-first 2 (PeriodOutside l) three b)
       (λ rest.
-      ⊎-elim
-      (λ (breaks : Breaks (runtime-outside l) b).
-      let h = saying-told 3 _ _ b breaks in
-      let first = h .1 .0 in
-      (h .0, (first .below, fit-before (h .0) .1 (first .before-fit), four (h .0) (first .broken) ∙ h .1 .1)))
-      (λ x. absurd (x .1))
+      ⊎-elim (named-first 3 (RuntimeOutside l) four b)
+      (λ more. ⊎-elim (named-first 19 (DeadlineOutside l) twenty b) (λ x. absurd (x .1)) (more .1))
       (rest .1))
       R)
 
@@ -188,7 +230,7 @@ module _ (l : TaskList) where
   unfolding boundsRules _andThen_ found ofMemory ofCycle
   found-goes supply =
       goes-on (no-tasks l then more-than-16 l then no-more) _ _ _ count-goes
-      (λ _. goes-on (period-outside l then runtime-outside l then no-more) _ _ _ tasks-go
+      (λ _. goes-on (period-outside l then runtime-outside l then deadline-outside l then no-more) _ _ _ tasks-go
       (λ _. goes-on (memory-exceeds l supply then no-more) (cycle-above l then no-more) _ _ (running-goes (memorySum (l .tasks)) supply 4 _ (λ i. plain-refuses 4 (suc i)))
       (λ _. running-goes (multiple (l .tasks)) 4096 5 _ (λ i. clash-refuses (suc i) (multiple (l .tasks) i) (task i .period)))))
 
@@ -414,3 +456,9 @@ period-goes micros slice =
   where
     other : {A : Type 0} {n : ℕ} → Count n ≡ NoSlices → A
     other e = let z : _≡_ {A = ℕ} 0 1 = cc in absurd (omega arith)
+
+pub deadline-goes : (micros slice : ℕ) → GoesBy (no-length slice then no-more) (slicesAnswer (deadlineSlices micros slice))
+unfolding deadlineSlices slicesAnswer
+deadline-goes micros slice =
+    subst (GoesBy (no-length slice then no-more)) (sym (of-choice slicesAnswer _ _ _))
+    (goes-by-rule 16 _ _ _ none-number (eqb-true slice 0) (eq-eqb slice 0))

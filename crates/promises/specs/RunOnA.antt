@@ -23,9 +23,9 @@ use Rattle.start.specs.declared.Asked.{Asked}
 use Rattle.start.specs.declared.Asked.the-variants.{Table, Filling}
 use Rattle.start.specs.Start.{modeOf, startState, begunOf, begunState, begunLog}
 use Rattle.run.specs.State.{periodOf, currentOf, ageOf, fresh, jobOf, every, soundTask, sound, offset, jobCount, place, deadlineNext, releaseNext}
-use Rattle.run.specs.State.{runtimeOf as runtimeIn}
+use Rattle.run.specs.State.{dueOf as dueIn, runtimeOf as runtimeIn}
 use Rattle.run.specs.Who.{unlessEnded, firstOpen, runningBy, running, of9, of10, of11By, of11, whoFound, ofEntry, answered, whoOf, runnerAnswer}
-use Rattle.run.specs.Step.{of12, nextClock, of13, of14, stepFound, afterSlice, resultOf, withResult, withLate, logAfter, jobAfter, stateAfter, nextState, nextLog}
+use Rattle.run.specs.Step.{of12, nextClock, of13, of14, stepFound, afterSlice, resultOf, withResult, withLate, logAfter, closedAt, jobAfter, stateAfter, nextState, nextLog}
 use Rattle.bench.specs.Course.{Course, reportOf, reportIn, needIn, refusalIn, stateIn, logIn, closed, courseAt}
 use Rattle.bench.specs.declared.Driven.{Driven}
 use Rattle.bench.specs.Drive.{begun, Drives}
@@ -112,5 +112,5 @@ pub record OnA : Type 0 where
   pub second-filling : endOnA Filling 1 1 ≡ 8
 
 pub on-A : OnA
-unfolding A task needsOnA builtOnA tableOnA firstOnA runOnA endOnA drive-run course-run placeOf isLogged endIn listOf planOf fitted tabled choose sum least overwrite firstOf first job age keyIn wants pick gets hadAfter hadAll had entry given table noTask taskAt euclid gcdOf lcmOf multiple memorySum jobSum cycleOf jobsOf refusal none _orElse_ firstFound ofCount ofNumbers ofTask ofMemory ofCycle found answer boundsOf received missing missedAt lateBy earlier lateness judged verdictFrom verdictOf modeOf startState begunState begunLog periodOf currentOf ageOf fresh jobOf within every soundTask sound offset jobCount place deadlineNext releaseNext runtimeIn unlessEnded firstOpen runningBy running of9 of10 of11By of11 whoFound ofEntry answered whoOf runnerAnswer of12 nextClock of13 of14 stepFound afterSlice resultOf withResult withLate logAfter jobAfter stateAfter nextState nextLog reportOf reportIn needIn refusalIn stateIn logIn closed courseAt begun
+unfolding A task needsOnA builtOnA tableOnA firstOnA runOnA endOnA drive-run course-run placeOf isLogged endIn listOf planOf fitted tabled choose sum least overwrite firstOf first job age keyIn wants pick gets hadAfter hadAll had entry given table noTask taskAt euclid gcdOf lcmOf multiple memorySum jobSum cycleOf jobsOf refusal none _orElse_ firstFound ofCount ofNumbers ofTask ofMemory ofCycle found answer boundsOf received missing missedAt lateBy earlier lateness judged verdictFrom verdictOf modeOf startState begunState begunLog periodOf dueIn currentOf ageOf fresh jobOf within every soundTask sound offset jobCount place deadlineNext releaseNext runtimeIn unlessEnded firstOpen runningBy running of9 of10 of11By of11 whoFound ofEntry answered whoOf runnerAnswer of12 nextClock of13 of14 stepFound afterSlice resultOf withResult withLate logAfter closedAt jobAfter stateAfter nextState nextLog reportOf reportIn needIn refusalIn stateIn logIn closed courseAt begun
 on-A = record { log-by-table = refl; log-filling = refl; third-by-table = refl; third-filling = refl; second-by-table = refl; second-filling = refl }

@@ -84,13 +84,13 @@ pub reads-bound : (n : ℕ) → 1 ≤ n → n ≤ 6 → refusalOf n ≡ Bound n
 unfolding refusalOf choose
 reads-bound n l u = rw (is-within 1 6 n l u)
 
-pub reads-refusals : (refusalOf 7 ≡ Lateness) × (refusalOf 8 ≡ ShortTable) × (refusalOf 17 ≡ Conversion)
+pub reads-refusals : (refusalOf 7 ≡ Lateness) × (refusalOf 8 ≡ ShortTable) × (refusalOf 17 ≡ Conversion) × (refusalOf 20 ≡ Bound 20)
 unfolding refusalOf choose within
-reads-refusals = (refl, refl, refl)
+reads-refusals = (refl, refl, refl, refl)
 
 -- past 8, what is left to tell apart; and past 17
 past-seventeen : ℕ → Refusal
-past-seventeen n = choose (within 18 19 n) (Viewer n) (choose (within 30 31 n) (Viewer n) (NoRefusal n))
+past-seventeen n = choose (within 18 19 n) (Viewer n) (choose (eqb n 20) (Bound n) (choose (within 30 31 n) (Viewer n) (NoRefusal n)))
 
 past-eight :
     (n : ℕ)
@@ -114,13 +114,13 @@ reads-program n l u = rw (past-eight n (omega arith), above 9 14 n l, is-within 
 pub reads-viewer : (n : ℕ) → ((18 ≤ n) × (n ≤ 19)) ⊎ ((30 ≤ n) × (n ≤ 31)) → refusalOf n ≡ Viewer n
 unfolding choose past-seventeen
 reads-viewer n (inl h) = rw (beyond-seventeen n (h .0), is-within 18 19 n (h .0) (h .1))
-reads-viewer n (inr h) = rw (beyond-seventeen n (omega (arith, h .0)), above 18 19 n (omega (arith, h .0)), is-within 30 31 n (h .0) (h .1))
+reads-viewer n (inr h) = rw (beyond-seventeen n (omega (arith, h .0)), above 18 19 n (omega (arith, h .0)), ne-eqb n 20 (λ e. omega (arith, h .0)), is-within 30 31 n (h .0) (h .1))
 
-pub reads-no-refusal : (n : ℕ) → (n ≡ 0) ⊎ (((19 < n) × (n < 30)) ⊎ (31 < n)) → refusalOf n ≡ NoRefusal n
+pub reads-no-refusal : (n : ℕ) → (n ≡ 0) ⊎ (((20 < n) × (n < 30)) ⊎ (31 < n)) → refusalOf n ≡ NoRefusal n
 unfolding refusalOf choose within past-seventeen
 reads-no-refusal n (inl e) = rw e
-reads-no-refusal n (inr (inl h)) = rw (beyond-seventeen n (omega (arith, h .0)), above 18 19 n (h .0), below 30 31 n (h .1))
-reads-no-refusal n (inr (inr h)) = rw (beyond-seventeen n (omega arith), above 18 19 n (omega arith), above 30 31 n h)
+reads-no-refusal n (inr (inl h)) = rw (beyond-seventeen n (omega (arith, h .0)), above 18 19 n (omega (arith, h .0)), ne-eqb n 20 (λ e. omega (arith, h .0)), below 30 31 n (h .1))
+reads-no-refusal n (inr (inr h)) = rw (beyond-seventeen n (omega arith), above 18 19 n (omega arith), ne-eqb n 20 (λ e. omega arith), above 30 31 n h)
 
 pub refusal-number : (n : ℕ) → refusalNumber (refusalOf n) ≡ n
 unfolding refusalOf refusalNumber
@@ -132,7 +132,8 @@ refusal-number n =
     (of-choice refusalNumber n _ _ _ (λ h. refl)
     (of-choice refusalNumber n _ _ _ (λ h. sym (eqb-true n 17 h))
     (of-choice refusalNumber n _ _ _ (λ h. refl)
-    (of-choice refusalNumber n _ _ _ (λ h. refl) refl)))))))
+    (of-choice refusalNumber n _ _ _ (λ h. refl)
+    (of-choice refusalNumber n _ _ _ (λ h. refl) refl))))))))
 
 -- ---- log bytes
 pub reads-results : (loggedOf 0 ≡ NoResult) × (loggedOf 1 ≡ Done) × (loggedOf 2 ≡ Over) × (loggedOf 3 ≡ Late)

@@ -17,7 +17,7 @@ entryOf byte count =
     (choose (within 1 16 byte && leb byte count) (Task byte)
     (NoEntry byte))
 
--- Numbers of refusal: 1 to 6 bound the list, 7 a deadline missed, 8 the table lent is too short, 9 to 14 the run,
+-- Numbers of refusal: 1 to 6 and 20 bound the list, 7 a deadline missed, 8 the table lent is too short, 9 to 14 the run,
 -- 15 and 16 the program, 17 the conversion, 18, 19, 30 and 31 the viewer.
 unfoldable pub refusalOf : ℕ → Refusal
 refusalOf n =
@@ -28,8 +28,9 @@ refusalOf n =
     (choose (within 15 16 n) (Program n)
     (choose (eqb n 17) Conversion
     (choose (within 18 19 n) (Viewer n)
+    (choose (eqb n 20) (Bound n)
     (choose (within 30 31 n) (Viewer n)
-    (NoRefusal n))))))))
+    (NoRefusal n)))))))))
 
 -- The log: 0 no result, 1 done, 2 over, 3 late, any other byte damaged.
 unfoldable pub loggedOf : ℕ → Logged

@@ -49,6 +49,7 @@ pub fn read_refusal(number: u32) -> Refusal
         15..=16 => Refusal::Program(number),
         17 => Refusal::Conversion,
         18..=19 => Refusal::Viewer(number),
+        20 => Refusal::Bound(number),
         30..=31 => Refusal::Viewer(number),
         _ => Refusal::NoRefusal(number),
     }

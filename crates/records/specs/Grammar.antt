@@ -1,6 +1,7 @@
 -- The form of the program's input, in the scope paper's words: field, line, the lines of an input, and what reading one answers.
 use mathlib.Core.Path.{_≡_}
 use mathlib.Core.List.{List, [], _∷_, _++_}
+use mathlib.Core.Logic.{_⊎_}
 use Prim.Native.Nat.{ℕ, suc, _+_, _-_, _*_, _≤_, _<_}
 use lib.ListN.{length, getD}
 use Rattle.basis.specs.Answer.{Answer, refusal, none}
@@ -46,9 +47,12 @@ pub data Fields : List ℕ → List ℕ → Type 0 where
   one : {bytes : List ℕ} {v : ℕ} → Field bytes v → Fields bytes (v ∷ [])
   more : {bytes rest : List ℕ} {v : ℕ} {vs : List ℕ} → Field bytes v → Fields rest vs → Fields (bytes ++ comma ∷ rest) (v ∷ vs)
 
--- A line in form: three fields, which are the period, the run-time and the memory of its task.
+-- A line in form: three fields, which are the period, the run-time and the memory of its task, whose deadline is then the period; or four,
+-- the fourth being the deadline.
 unfoldable pub Row : List ℕ → Task → Type 0
-Row line t = Fields line (t .period ∷ t .runtime ∷ t .memory ∷ [])
+Row line t =
+    (Fields line (t .period ∷ t .runtime ∷ t .memory ∷ []) × (t .deadline ≡ t .period))
+    ⊎ Fields line (t .period ∷ t .runtime ∷ t .memory ∷ t .deadline ∷ [])
 
 -- Nowhere in a line stands the pair CRLF; a lone CR or LF may, and then the line is not in form.
 unfoldable pub NoPair : List ℕ → Type 0

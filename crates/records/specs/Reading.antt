@@ -29,7 +29,7 @@ begun-after : (s : Line) (b : ℕ) → begun (withByte s b) ≡ true
 unfolding withByte withComma withDigit
 begun-after s b =
     choose-either Begun _ _ _
-    (choose-either Begun _ _ _ (choose-either Begun _ _ _ refl refl) refl)
+    (choose-either Begun _ _ _ (choose-either Begun _ _ _ refl (choose-either Begun _ _ _ refl refl)) refl)
     (choose-either Begun _ _ _ (choose-either Begun _ _ _ refl refl) refl)
   where
     Begun : Line → Type 0

@@ -1,20 +1,20 @@
 -- The reader of a line ends complete exactly on a line in form, and then with the line's task.
 use mathlib.Core.Path.{_≡_, refl, sym, ap, ap₂, subst, _∙_}
-use mathlib.Core.Bool.{Bool, true, false, true≢false, _&&_}
+use mathlib.Core.Bool.{Bool, true, false, true≢false}
 use mathlib.Core.List.{List, [], _∷_, _++_, append-nil, append-assoc}
-use mathlib.Core.Logic.{⊎-elim}
+use mathlib.Core.Logic.{_⊎_, inl, inr, ⊎-elim}
 use Prim.Native.Nat.{ℕ, suc, _+_, _-_, _*_, _^_, _≤_, _<_}
 use native.Mathlib.Omega.{arith}
 use native.Mathlib.Nat.{pow-suc, pow-le-pow-right}
-use lib.Dec.{eqb, leb, ltb}
+use lib.Dec.{eqb, leb}
 use lib.ListN.{length, getD, length-append, List·getD-append}
 use lib.Seq.{getD-append-seam}
-use borrow.Author.Tests.{eq-eqb, ne-eqb, eqb-true, le-leb, lt-leb, ltb-true}
+use borrow.Author.Tests.{eq-eqb, ne-eqb, le-leb, lt-leb, leb-true, ltb-true}
 use Rattle.basis.specs.Choose.{choose, choose-yes, choose-no, choose-either, bool-cases, both-true, both-false, either-false, eq-or-ne, le-or-lt, below-suc}
 use Rattle.tasks.specs.declared.Task.{Task}
 use Rattle.records.specs.declared.Line.{Line}
 use Rattle.records.specs.Grammar.{comma, '0', '9', valueAfter, Field, Fields, one, more, Row}
-use Rattle.records.specs.Shapes.{fresh, spoilt, full, not-full, withDigit, withComma, isDigit, digit-tells, withByte, lineFrom, complete, taskOf}
+use Rattle.records.specs.Shapes.{fresh, spoilt, full, not-full, withDigit, closable, withComma, isDigit, digit-tells, withByte, lineFrom, complete, taskOf}
 
 -- ---- a field so far
 -- A field as far as it is read: how its value goes with its length, and that it is 0 exactly if it begins with "0".
@@ -112,7 +112,7 @@ room (some {p = p} {v = v} begun) b rest w field =
 
 -- ---- one byte in a line
 abbrev inField : Line → ℕ → Line
-inField s v = record { closed = s .closed; digits = true; value = v; period = s .period; runtime = s .runtime }
+inField s v = record { closed = s .closed; digits = true; value = v; period = s .period; runtime = s .runtime; memory = s .memory }
 
 module _ (s : Line) (b : ℕ) (from : '0' ≤ b) (to : b ≤ '9') where
   is-digit : withByte s b ≡ withDigit s b
@@ -137,7 +137,7 @@ field-rest : (f p : List ℕ) (s : Line) (w : ℕ) → Began p (s .digits) (s .v
 unfolding lineFrom
 field-rest [] p s w begun field =
     let e = began-all begun (subst (λ (x : List ℕ). Field x w) (append-nil p) field) in
-    ap₂ (λ (x : Bool) (y : ℕ). record { closed = s .closed; digits = x; value = y; period = s .period; runtime = s .runtime }) (e .0) (e .1)
+    ap₂ (λ (x : Bool) (y : ℕ). record { closed = s .closed; digits = x; value = y; period = s .period; runtime = s .runtime; memory = s .memory }) (e .0) (e .1)
 field-rest (b ∷ f) p s w begun field =
     let r = room begun b f w field in
     let at : length p < length (p ++ b ∷ f) = omega (arith, length-append p (b ∷ f)) in
@@ -155,15 +155,29 @@ module _ (s : Line) (d : s .digits ≡ false) (z : s .value ≡ 0) where
   unfolding lineFrom withByte choose
   then-comma f rest w field = line-append s f (comma ∷ rest) ∙ ap (λ (x : Line). lineFrom x (comma ∷ rest)) (field-read f w field)
 
-abbrev whole : ℕ → ℕ → ℕ → Line
-whole x y z = record { closed = 2; digits = true; value = z; period = x; runtime = y }
+-- at the start of the line's second, third and fourth field
+abbrev second : ℕ → Line
+second x = record { closed = 1; digits = false; value = 0; period = x; runtime = 0; memory = 0 }
 
-three-read : {line : List ℕ} {x y z : ℕ} → Fields line (x ∷ y ∷ z ∷ []) → lineFrom fresh line ≡ whole x y z
+abbrev third : ℕ → ℕ → Line
+third x y = record { closed = 2; digits = false; value = 0; period = x; runtime = y; memory = 0 }
+
+abbrev fourth : ℕ → ℕ → ℕ → Line
+fourth x y z = record { closed = 3; digits = false; value = 0; period = x; runtime = y; memory = z }
+
+two-read : {a b : List ℕ} {x y : ℕ} (rest : List ℕ) → Field a x → Field b y → lineFrom fresh (a ++ comma ∷ (b ++ comma ∷ rest)) ≡ lineFrom (third x y) rest
 unfolding withComma choose
-three-read {x = x} {y = y} {z = z} (more {bytes = a} {rest = r} field (more {bytes = b} {rest = c} field₂ (one field₃))) =
-    then-comma fresh refl refl a (b ++ comma ∷ c) x field
-    ∙ then-comma (record { closed = 1; digits = false; value = 0; period = x; runtime = 0 }) refl refl b c y field₂
-    ∙ field-read (record { closed = 2; digits = false; value = 0; period = x; runtime = y }) refl refl c z field₃
+two-read {a = a} {b = b} {x = x} {y = y} rest field field₂ =
+    then-comma fresh refl refl a (b ++ comma ∷ rest) x field ∙ then-comma (second x) refl refl b rest y field₂
+
+three-read : {line : List ℕ} {x y z : ℕ} → Fields line (x ∷ y ∷ z ∷ []) → lineFrom fresh line ≡ inField (third x y) z
+three-read {x = x} {y = y} {z = z} (more field (more field₂ (one {bytes = c} field₃))) =
+    two-read c field field₂ ∙ field-read (third x y) refl refl c z field₃
+
+four-read : {line : List ℕ} {x y z w : ℕ} → Fields line (x ∷ y ∷ z ∷ w ∷ []) → lineFrom fresh line ≡ inField (fourth x y z) w
+unfolding withComma choose
+four-read {x = x} {y = y} {z = z} {w = w} (more field (more field₂ (more {bytes = c} field₃ (one {bytes = d} field₄)))) =
+    two-read (c ++ comma ∷ d) field field₂ ∙ then-comma (third x y) refl refl c d z field₃ ∙ field-read (fourth x y z) refl refl d w field₄
 
 -- ---- out of form once is out of form for good
 spoilt-stays : (b : ℕ) → withByte spoilt b ≡ spoilt
@@ -179,21 +193,33 @@ spoilt-never : (bs : List ℕ) (s : Line) → s ≡ spoilt → complete (lineFro
 spoilt-never bs s e h = true≢false (sym h ∙ ap (λ (x : Line). complete (lineFrom x bs)) e ∙ ap (λ (x : Line). complete x) (spoilt-read bs))
 
 -- ---- a line that is read to its end is in form
-complete-tells : (s : Line) → complete s ≡ true → (s .closed ≡ 2) × (s .digits ≡ true)
-complete-tells s h = let e = both-true _ _ .0 h in (eqb-true (s .closed) 2 (e .0), e .1)
+complete-tells : (s : Line) → complete s ≡ true → ((s .closed ≡ 2) ⊎ (s .closed ≡ 3)) × (s .digits ≡ true)
+complete-tells s h =
+    let e = both-true _ _ .0 h in
+    let c = both-true (leb 2 (s .closed)) (leb (s .closed) 3) .0 (e .0) in
+    let from = leb-true 2 (s .closed) (c .0) in
+    let to = leb-true (s .closed) 3 (c .1) in
+    (⊎-elim (λ (k : s .closed ≤ 2). inl (omega arith)) (λ (k : 2 < s .closed). inr (omega arith)) (le-or-lt (s .closed) 2), e .1)
+
+closable-tells : (s : Line) → closable s ≡ true → (s .digits ≡ true) × (s .closed < 3)
+closable-tells s h = let e = both-true _ _ .0 h in (e .0, ltb-true (s .closed) _ (e .1))
 
 -- the fields that are closed
 unfoldable before : Line → List ℕ
-before s = choose (eqb (s .closed) 0) [] (choose (eqb (s .closed) 1) (s .period ∷ []) (s .period ∷ s .runtime ∷ []))
+before s =
+    choose (eqb (s .closed) 0) []
+    (choose (eqb (s .closed) 1) (s .period ∷ [])
+    (choose (eqb (s .closed) 2) (s .period ∷ s .runtime ∷ []) (s .period ∷ s .runtime ∷ s .memory ∷ [])))
 
-abbrev values : Task → List ℕ
-values t = t .period ∷ t .runtime ∷ t .memory ∷ []
+-- and the open one after them
+abbrev values : Line → List ℕ
+values s = before s ++ s .value ∷ []
 
--- what a line turns out to be: the fields from the open one on
-record Rest (p bs : List ℕ) (s : Line) (t : Task) : Type 0 where
+-- what a line turns out to be: the fields from the open one on, and with those before them the values it ends with
+record Rest (p bs : List ℕ) (s end : Line) : Type 0 where
   found : List ℕ
   fields : Fields (p ++ bs) found
-  together : before s ++ found ≡ values t
+  together : before s ++ found ≡ values end
 
 -- What a byte does: it joins the open field, closes it, or spoils the line.
 data Does (s : Line) (b : ℕ) : Type 0 where
@@ -205,17 +231,22 @@ comma-does : (s : Line) (b : ℕ) → b ≡ comma → Does s b
 unfolding withByte withComma before choose
 comma-does s b c =
     ⊎-elim
-    (λ (t : (s .digits && ltb (s .closed) 2) ≡ true).
-    let e = both-true _ _ .0 t in
+    (λ (t : closable s ≡ true).
+    let e = closable-tells s t in
+    let taken = ap (withByte s) c ∙ choose-yes _ _ _ t in
     ⊎-elim
-    (λ (z : s .closed ≡ 0).
-    closes (record { closed = 1; digits = false; value = 0; period = s .value; runtime = 0 }) c (ap (withByte s) c ∙ choose-yes _ _ _ t ∙ choose-yes _ _ _ (eq-eqb (s .closed) 0 z)) refl refl (rw z) (e .0))
+    (λ (z : s .closed ≡ 0). closes (second (s .value)) c (taken ∙ choose-yes _ _ _ (eq-eqb (s .closed) 0 z)) refl refl (rw z) (e .0))
     (λ (nz : s .closed ≡ 0 → ⊥).
-    let o : s .closed ≡ 1 = omega (arith, ltb-true (s .closed) 2 (e .1)) in
-    closes (record { closed = 2; digits = false; value = 0; period = s .period; runtime = s .value }) c (ap (withByte s) c ∙ choose-yes _ _ _ t ∙ choose-no _ _ _ (ne-eqb (s .closed) 0 nz)) refl refl (rw o) (e .0))
+    let later = taken ∙ choose-no _ _ _ (ne-eqb (s .closed) 0 nz) in
+    ⊎-elim
+    (λ (o : s .closed ≡ 1). closes (third (s .period) (s .value)) c (later ∙ choose-yes _ _ _ (eq-eqb (s .closed) 1 o)) refl refl (rw o) (e .0))
+    (λ (no : s .closed ≡ 1 → ⊥).
+    let o : s .closed ≡ 2 = omega arith in
+    closes (fourth (s .period) (s .runtime) (s .value)) c (later ∙ choose-no _ _ _ (ne-eqb (s .closed) 1 no)) refl refl (rw o) (e .0))
+    (eq-or-ne (s .closed) 1))
     (eq-or-ne (s .closed) 0))
-    (λ (f : (s .digits && ltb (s .closed) 2) ≡ false). spoils (ap (withByte s) c ∙ choose-no _ _ _ f))
-    (bool-cases (s .digits && ltb (s .closed) 2))
+    (λ (f : closable s ≡ false). spoils (ap (withByte s) c ∙ choose-no _ _ _ f))
+    (bool-cases (closable s))
 
 byte-does : (s : Line) (b : ℕ) → Does s b
 unfolding withByte
@@ -234,13 +265,9 @@ byte-does s b =
     (bool-cases (isDigit b)))
     (eq-or-ne b comma)
 
-last-field : (s : Line) → s .closed ≡ 2 → before s ++ s .value ∷ [] ≡ values (taskOf s)
-unfolding before choose taskOf
-last-field s e = rw e
-
 module _ (p bs : List ℕ) (s : Line) (b : ℕ) where
-  abbrev after : Line → Task
-  after x = taskOf (lineFrom x bs)
+  abbrev after : Line → Line
+  after x = lineFrom x bs
 
   digit-joins : (v : ℕ) → withByte s b ≡ inField s v → Rest (p ++ b ∷ []) bs (inField s v) (after (inField s v)) → Rest p (b ∷ bs) s (after (withByte s b))
   unfolding before
@@ -257,18 +284,18 @@ module _ (p bs : List ℕ) (s : Line) (b : ℕ) where
     together = sym (append-assoc (before s) (s .value ∷ []) (R .found)) ∙ ap (λ (l : List ℕ). l ++ R .found) (sym eb) ∙ R .together ∙ ap (λ (y : Line). values (after y)) (sym e);
   }
 
-rest-found : (bs p : List ℕ) (s : Line) → Began p (s .digits) (s .value) → complete (lineFrom s bs) ≡ true → Rest p bs s (taskOf (lineFrom s bs))
+rest-found : (bs p : List ℕ) (s : Line) → Began p (s .digits) (s .value) → complete (lineFrom s bs) ≡ true → Rest p bs s (lineFrom s bs)
 unfolding lineFrom
 rest-found [] p s begun h =
     let e = complete-tells s h in
     record {
       found = s .value ∷ [];
       fields = subst (λ (x : List ℕ). Fields x (s .value ∷ [])) (sym (append-nil p)) (one (began-field begun (e .1)));
-      together = last-field s (e .0);
+      together = refl;
     }
 rest-found (b ∷ bs) p s begun h =
     let still : (x : Line) → withByte s b ≡ x → complete (lineFrom x bs) ≡ true = λ x e. subst (λ (y : Line). complete (lineFrom y bs) ≡ true) e h in
-    elim (byte-does s b) as (λ _. Rest p (b ∷ bs) s (taskOf (lineFrom (withByte s b) bs))) [
+    elim (byte-does s b) as (λ _. Rest p (b ∷ bs) s (lineFrom (withByte s b) bs)) [
       | joins from to f ↦
           let e = digit-taken s b from to f in
           digit-joins p bs s b _ e (rest-found bs (p ++ b ∷ []) (inField s (s .value * 10 + (b - '0'))) (began-more begun b f from to) (still _ e))
@@ -277,13 +304,25 @@ rest-found (b ∷ bs) p s begun h =
     ]
 
 -- ---- both ways
+-- The values of a line of three or four fields are its task's.
+values-row : (line : List ℕ) (s : Line) → (s .closed ≡ 2) ⊎ (s .closed ≡ 3) → Fields line (values s) → Row line (taskOf s)
+unfolding Row taskOf before choose
+values-row line s (inl e) F = rw e (inl (rw e at F, refl))
+values-row line s (inr e) F = rw e (inr (rw e at F))
+
 pub row-complete : (line : List ℕ) (t : Task) → Row line t → (complete (lineFrom fresh line) ≡ true) × (taskOf (lineFrom fresh line) ≡ t)
-unfolding Row taskOf
-row-complete line t R = let e = three-read R in (rw e, rw e)
+unfolding Row taskOf choose
+row-complete line t R =
+    ⊎-elim
+    (λ (h : Fields line (t .period ∷ t .runtime ∷ t .memory ∷ []) × (t .deadline ≡ t .period)). let e = three-read (h .0) in (rw e, rw (e, sym (h .1))))
+    (λ (h : Fields line (t .period ∷ t .runtime ∷ t .memory ∷ t .deadline ∷ [])). let e = four-read h in (rw e, rw e))
+    R
 
 pub complete-row : (line : List ℕ) → complete (lineFrom fresh line) ≡ true → Row line (taskOf (lineFrom fresh line))
-unfolding Row before choose
-complete-row line h = let R = rest-found line [] fresh none h in subst (Fields line) (R .together) (R .fields)
+unfolding before choose
+complete-row line h =
+    let R = rest-found line [] fresh none h in
+    values-row line (lineFrom fresh line) (complete-tells (lineFrom fresh line) h .0) (subst (Fields line) (R .together) (R .fields))
 
 -- A line is the row of one task at most.
 pub row-one : (line : List ℕ) (t u : Task) → Row line t → Row line u → t ≡ u

@@ -18,11 +18,11 @@ use Rattle.records.specs.declared.Line.{Line}
 use Rattle.records.specs.LineEnds.{linesOf}
 
 abbrev pub fresh : Line
-fresh = record { closed = 0; digits = false; value = 0; period = 0; runtime = 0 }
+fresh = record { closed = 0; digits = false; value = 0; period = 0; runtime = 0; memory = 0 }
 
 -- Out of form for good: no comma closes its field, and no digit finds room in it.
 abbrev pub spoilt : Line
-spoilt = record { closed = 3; digits = false; value = 100000000; period = 0; runtime = 0 }
+spoilt = record { closed = 4; digits = false; value = 100000000; period = 0; runtime = 0; memory = 0 }
 
 -- ---- a byte within a line
 abbrev pub full : Bool → ℕ → Bool
@@ -34,13 +34,18 @@ not-full d v h = leb-false 100000000 v (either-false (leb 100000000 v) _ .0 h .0
 unfoldable pub withDigit : Line → ℕ → Line
 withDigit s b =
     choose (full (s .digits) (s .value)) spoilt
-    (record { closed = s .closed; digits = true; value = s .value * 10 + (b - 48); period = s .period; runtime = s .runtime })
+    (record { closed = s .closed; digits = true; value = s .value * 10 + (b - 48); period = s .period; runtime = s .runtime; memory = s .memory })
+
+-- A comma may follow: the open field has a digit and is not the fourth.
+abbrev pub closable : Line → Bool
+closable s = s .digits && ltb (s .closed) 3
 
 unfoldable pub withComma : Line → Line
 withComma s =
-    choose (s .digits && ltb (s .closed) 2)
-    (choose (eqb (s .closed) 0) (record { closed = 1; digits = false; value = 0; period = s .value; runtime = 0 })
-    (record { closed = 2; digits = false; value = 0; period = s .period; runtime = s .value }))
+    choose (closable s)
+    (choose (eqb (s .closed) 0) (record { closed = 1; digits = false; value = 0; period = s .value; runtime = 0; memory = 0 })
+    (choose (eqb (s .closed) 1) (record { closed = 2; digits = false; value = 0; period = s .period; runtime = s .value; memory = 0 })
+    (record { closed = 3; digits = false; value = 0; period = s .period; runtime = s .runtime; memory = s .value })))
     spoilt
 
 abbrev pub isDigit : ℕ → Bool
@@ -58,13 +63,15 @@ lineFrom s [] = s
 lineFrom s (b ∷ bs) = lineFrom (withByte s b) bs
 
 abbrev pub complete : Line → Bool
-complete s = eqb (s .closed) 2 && s .digits
+complete s = (leb 2 (s .closed) && leb (s .closed) 3) && s .digits
 
 abbrev pub begun : Line → Bool
 begun s = s .digits || not (eqb (s .closed) 0)
 
 unfoldable pub taskOf : Line → Task
-taskOf s = record { period = s .period; runtime = s .runtime; memory = s .value }
+taskOf s =
+    choose (eqb (s .closed) 2) (record { period = s .period; runtime = s .runtime; memory = s .value; deadline = s .period })
+    (record { period = s .period; runtime = s .runtime; memory = s .memory; deadline = s .value })
 
 -- ---- a line ends
 unfoldable pub kept : TaskList → Task → TaskList

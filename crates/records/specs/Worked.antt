@@ -22,8 +22,11 @@ abbrev times : ℕ → List ℕ → List ℕ
 times zero l = []
 times (suc n) l = l ++ times n l
 
+abbrev due : ℕ → ℕ → ℕ → ℕ → Task
+due period runtime memory deadline = record { period = period; runtime = runtime; memory = memory; deadline = deadline }
+
 abbrev task : ℕ → ℕ → ℕ → Task
-task period runtime memory = record { period = period; runtime = runtime; memory = memory }
+task period runtime memory = due period runtime memory period
 
 read-so : (input : List ℕ) (a : Read) → readOf (parsedOf input) ≡ a → Reads input a
 read-so input a e = subst (Reads input) e (parsed-reads input)
@@ -43,7 +46,11 @@ pub worked :
     × Reads (bytes "2,00,0") (refused 1)
     × Reads (bytes "2,1") (refused 1)
     × Reads (bytes "2,1,") (refused 1)
-    × Reads (bytes "2,1,0,0") (refused 1)
+    × Reads (bytes "4,1,0,3") (accepted (due 4 1 0 3 ∷ []))
+    × Reads (bytes "4,1,0\r\n6,2,0,3\r\n12,3,0") (accepted (task 4 1 0 ∷ due 6 2 0 3 ∷ task 12 3 0 ∷ []))
+    × Reads (bytes "2,1,0,0") (accepted (due 2 1 0 0 ∷ []))
+    × Reads (bytes "4,1,0,") (refused 1)
+    × Reads (bytes "4,1,0,3,0") (refused 1)
     × Reads (bytes "2, 1,0") (refused 1)
     × Reads (bytes "-2,1,0") (refused 1)
     × Reads (bytes "\"2\",1,0") (refused 1)

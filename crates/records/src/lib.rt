@@ -1,11 +1,11 @@
-// The program's input, from bytes to a task list: three decimal fields a line, lines parted by the pair CRLF.
+// The program's input, from bytes to a task list: three or four decimal fields a line, lines parted by the pair CRLF.
 ghost use mathlib.Core.Path.{_≡_};
 ghost use mathlib.Core.List.{[]};
 ghost use Prim.Native.Nat.{_+_, _≤_, _<_};
 ghost use lib.ListN.{length, getD};
 ghost use Rattle.tasks.specs.List.{listOf};
 ghost use Rattle.records.specs.Grammar.{readOf, Reads};
-ghost use Rattle.records.specs.Shapes.{fresh, spoilt, withDigit, withComma, withByte, kept, closeGood, closeLine, atEnd};
+ghost use Rattle.records.specs.Shapes.{fresh, spoilt, withDigit, withComma, withByte, taskOf, kept, closeGood, closeLine, atEnd};
 ghost use Rattle.records.specs.LineEnds.{isPair};
 use tasks::Task;
 use tasks::TaskList;
@@ -22,14 +22,15 @@ pub struct Parsed {
     pub list: TaskList,
 }
 
-// A line as far as it is read: how many fields are closed (3 once it is out of form), whether the open field has a digit and what
-// it is worth so far, and the first two fields.
+// A line as far as it is read: how many fields are closed (4 once it is out of form), whether the open field has a digit and what
+// it is worth so far, and the first three fields.
 struct Line {
     closed: u32,
     digits: bool,
     value: u32,
     period: u32,
     runtime: u32,
+    memory: u32,
 }
 
 fn fresh_line() -> Line
@@ -41,6 +42,7 @@ fn fresh_line() -> Line
         value: 0,
         period: 0,
         runtime: 0,
+        memory: 0,
     }
 }
 
@@ -49,11 +51,12 @@ fn spoilt_line() -> Line
     ensures { λ r. ⌜ r ≡ spoilt ⌝ }
 {
     Line {
-        closed: 3,
+        closed: 4,
         digits: false,
         value: 100000000,
         period: 0,
         runtime: 0,
+        memory: 0,
     }
 }
 
@@ -73,16 +76,17 @@ fn with_digit(line: Line, byte: u8) -> Line
         value: value * 10 + (byte - 48) as u32,
         period: line.period,
         runtime: line.runtime,
+        memory: line.memory,
     }
 }
 
-// A comma closes the open field, if that has a digit and is not the third.
+// A comma closes the open field, if that has a digit and is not the fourth.
 fn with_comma(line: Line) -> Line
     ensures { λ r. ⌜ r ≡ withComma line ⌝ }
 {
     let closed = line.closed;
     let value = line.value;
-    if line.digits & (closed < 2) {
+    if line.digits & (closed < 3) {
         if closed == 0 {
             return Line {
                 closed: 1,
@@ -90,14 +94,26 @@ fn with_comma(line: Line) -> Line
                 value: 0,
                 period: value,
                 runtime: 0,
+                memory: 0,
+            };
+        }
+        if closed == 1 {
+            return Line {
+                closed: 2,
+                digits: false,
+                value: 0,
+                period: line.period,
+                runtime: value,
+                memory: 0,
             };
         }
         return Line {
-            closed: 2,
+            closed: 3,
             digits: false,
             value: 0,
             period: line.period,
-            runtime: value,
+            runtime: line.runtime,
+            memory: value,
         };
     }
     spoilt_line()
@@ -124,8 +140,29 @@ fn no_tasks() -> TaskList
             period: 0,
             runtime: 0,
             memory: 0,
+            deadline: 0,
         }; 16],
         count: 0,
+    }
+}
+
+// The task of a line in form: with three fields its deadline is the period, with four it is the fourth.
+fn task_of(line: Line) -> Task
+    ensures { λ r. ⌜ r ≡ taskOf line ⌝ }
+{
+    if line.closed == 2 {
+        return Task {
+            period: line.period,
+            runtime: line.runtime,
+            memory: line.value,
+            deadline: line.period,
+        };
+    }
+    Task {
+        period: line.period,
+        runtime: line.runtime,
+        memory: line.memory,
+        deadline: line.value,
     }
 }
 
@@ -153,12 +190,9 @@ fn close_good(list: TaskList, line: Line) -> Parsed
     requires { ⌜ list .count < 18446744073709551615 ⌝ }
     ensures { λ r. ⌜ r ≡ closeGood list line ⌝ }
 {
-    if (line.closed == 2) & line.digits {
-        let task = Task {
-            period: line.period,
-            runtime: line.runtime,
-            memory: line.value,
-        };
+    let closed = line.closed;
+    if (2 <= closed) & (closed <= 3) & line.digits {
+        let task = task_of(line);
         let list = keep(list, task);
         return Parsed {
             form: Form::Good,

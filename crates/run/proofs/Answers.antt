@@ -138,12 +138,12 @@ module _ (s : State) (table : List ℕ) (clock report : ℕ) (log : List ℕ) (r
         (ek : marked ≡ resultPut log (placeIn (s .periods) (s .cycle) (s .position) (ran - 1)) result) where
       -- the state that the loop begins with
       abbrev begun : State
-      begun = stateOf (s .periods) (s .runtimes) used ended (s .count) (s .cycle) (s .position) (s .clock) Table
+      begun = stateOf (s .periods) (s .deadlines) (s .runtimes) used ended (s .count) (s .cycle) (s .position) (s .clock) Table
 
       begun-served : begun ≡ served s ran report
       unfolding served
       begun-served =
-          ap₂ (λ u e. stateOf (s .periods) (s .runtimes) u e (s .count) (s .cycle) (s .position) (s .clock) Table)
+          ap₂ (λ u e. stateOf (s .periods) (s .deadlines) (s .runtimes) u e (s .count) (s .cycle) (s .position) (s .clock) Table)
           eu (ee ∙ ap (λ (x : ℕ). endedIf ran x (s .ended)) byte-is)
 
       marked-result : marked ≡ withResult s ran report log
@@ -191,6 +191,6 @@ module _ (s : State) (table : List ℕ) (clock report : ℕ) (log log′ used : 
         let who = step-accepted s table clock report log .0 (accepted-none _ (sym e ∙ S .answer)) .asked in
         omega (arith, who .not-over, who .is-sound .cycle-to)
 
-    pub hands-on : Stepped s table clock report log log′ (record { answer = r; state = stateOf (s .periods) (s .runtimes) used ended (s .count) (s .cycle) (s .position + 1) clock (s .mode) })
+    pub hands-on : Stepped s table clock report log log′ (record { answer = r; state = stateOf (s .periods) (s .deadlines) (s .runtimes) used ended (s .count) (s .cycle) (s .position + 1) clock (s .mode) })
     unfolding heldAfter
     hands-on = rw e (rw e at (in-place s table clock report log log′ used ended r S))

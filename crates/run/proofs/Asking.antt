@@ -19,7 +19,7 @@ use Rattle.run.specs.declared.Mode.{Mode}
 use Rattle.run.specs.declared.Mode.the-variants.{Table, Filling}
 use Rattle.run.specs.declared.State.{State}
 use Rattle.run.specs.declared.Runner.the-variants.{Idle as NobodyRuns, Task as Runs, Refused}
-use Rattle.run.specs.State.{periodOf, runtimeOf, jobOf, sound, offset, jobCount}
+use Rattle.run.specs.State.{periodOf, dueOf, runtimeOf, ageOf, jobOf, sound, offset, jobCount}
 use Rattle.run.specs.Sound.{SoundState, sound-tells}
 use Rattle.run.specs.Places.{job-within, job-in-cycle}
 use Rattle.run.specs.Who.{unlessEnded, firstOpen, runningBy, running, of9, of10, of11By, of11, whoFound, whoRefusal, ofEntry, answered, whoOf}
@@ -33,14 +33,14 @@ choose-both true b x = refl
 choose-both false b x = refl
 
 module _ (s : State) where
-  jobs-one-pass : jobsIfSound (s .periods) (s .runtimes) (s .used) (s .ended) (s .count) (s .cycle) (s .position) ≡ choose (sound s) (jobCount s) 0
-  unfolding jobsIfSound jobsOf sound jobCount offset periodOf runtimeOf jobOf
+  jobs-one-pass : jobsIfSound (s .periods) (s .deadlines) (s .runtimes) (s .used) (s .ended) (s .count) (s .cycle) (s .position) ≡ choose (sound s) (jobCount s) 0
+  unfolding jobsIfSound jobsOf sound jobCount offset periodOf dueOf runtimeOf ageOf jobOf
   jobs-one-pass = choose-both _ _ _
 
   has-jobs : SoundState s → 0 < jobCount s
   has-jobs S = omega (arith, job-within s 0 _ (S .count-from) (job-in-cycle s S 0 0 (S .count-from) (S .cycle-from)))
 
-  module _ (jobs : ℕ) (e : jobs ≡ jobsIfSound (s .periods) (s .runtimes) (s .used) (s .ended) (s .count) (s .cycle) (s .position)) where
+  module _ (jobs : ℕ) (e : jobs ≡ jobsIfSound (s .periods) (s .deadlines) (s .runtimes) (s .used) (s .ended) (s .count) (s .cycle) (s .position)) where
     pub no-jobs : jobs ≡ 0 → sound s ≡ false
     no-jobs z =
         ⊎-elim
@@ -100,7 +100,7 @@ who-number s table = number-unless (sound s) 8 _ ∙ ap (λ (x : ℕ). choose (s
 refused-answers : (s : State) (table : List ℕ) (n : ℕ) → suc n ≡ whoRefusal s table → Answers s table (record { number = suc n; jobs = 0; ran = 0 })
 refused-answers s table n e = record { number-is = e; jobs-are = λ z. absurd (omega arith); ran-is = λ z. absurd (omega arith) }
 
-module _ (s : State) (table : List ℕ) (jobs : ℕ) (e : jobs ≡ jobsIfSound (s .periods) (s .runtimes) (s .used) (s .ended) (s .count) (s .cycle) (s .position)) where
+module _ (s : State) (table : List ℕ) (jobs : ℕ) (e : jobs ≡ jobsIfSound (s .periods) (s .deadlines) (s .runtimes) (s .used) (s .ended) (s .count) (s .cycle) (s .position)) where
   pub asked-unsound : jobs ≡ 0 → Answers s table (record { number = 9; jobs = 0; ran = 0 })
   asked-unsound z = refused-answers s table 8 (sym (who-number s table ∙ choose-no _ _ _ (no-jobs s jobs e z)))
 
@@ -127,8 +127,8 @@ module _ (s : State) (table : List ℕ) (jobs : ℕ) (e : jobs ≡ jobsIfSound (
         ran-is = λ _. er ∙ sym (ap (λ (x : Mode). runningBy x s table) em);
       }
 
-      pub asked-filling : (ran : ℕ) → s .mode ≡ Filling → ran ≡ openFirst (s .periods) (s .ended) (s .count) → Answers s table (record { number = 0; jobs = jobs; ran = ran })
-      unfolding of11By runningBy firstOpen openFirst periodOf jobOf
+      pub asked-filling : (ran : ℕ) → s .mode ≡ Filling → ran ≡ openFirst (s .deadlines) (s .ended) (s .count) → Answers s table (record { number = 0; jobs = jobs; ran = ran })
+      unfolding of11By runningBy firstOpen openFirst dueOf jobOf
       asked-filling ran em er = runs Filling em ran none-number er
 
       open-entry : (x : ℕ) → openEntry (s .ended) x ≡ unlessEnded s x
@@ -157,9 +157,9 @@ module _ (s : State) (table : List ℕ) (jobs : ℕ) (e : jobs ≡ jobsIfSound (
             (bool-cases unreadable)
 
 -- what is known before the mode is looked at, of the parts of a state
-module _ (periods runtimes used : List ℕ) (ended : List Bool) (count cycle position jobs : ℕ) (e : jobs ≡ jobsIfSound periods runtimes used ended count cycle position) (nz : jobs ≡ 0 → ⊥) where
+module _ (periods deadlines runtimes used : List ℕ) (ended : List Bool) (count cycle position jobs : ℕ) (e : jobs ≡ jobsIfSound periods deadlines runtimes used ended count cycle position) (nz : jobs ≡ 0 → ⊥) where
   abbrev parts : State
-  parts = stateOf periods runtimes used ended count cycle position 0 Table
+  parts = stateOf periods deadlines runtimes used ended count cycle position 0 Table
 
   pub few-tasks : count ≤ 16
   few-tasks = is-sound parts [] jobs e nz .count-to

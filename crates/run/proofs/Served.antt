@@ -13,8 +13,8 @@ use borrow.Author.Tests.{eqb-false, eq-eqb, ne-eqb}
 use Rattle.basis.specs.Bytes.{at, overwrite, overwrite-kept, overwrite-inside}
 use Rattle.basis.specs.Choose.{choose, choose-yes, choose-no, bool-cases, eq-or-ne, below-suc}
 use Rattle.run.specs.declared.State.{State}
-use Rattle.run.specs.State.{Job, fresh, periodOf, runtimeOf, currentOf, ageOf, jobOf, offset, place, placeIn, deadlineNext, releaseNext}
-use Rattle.run.specs.Step.{afterSlice, resultOf, withResult, withLate, jobAfter, stateAfter, stateOf}
+use Rattle.run.specs.State.{Job, fresh, periodOf, dueOf, runtimeOf, currentOf, ageOf, jobOf, offset, place, placeIn, deadlineNext, releaseNext}
+use Rattle.run.specs.Step.{afterSlice, resultOf, withResult, withLate, closedAt, jobAfter, stateAfter, stateOf}
 use Rattle.run.specs.Places.{place-by-numbers}
 use Rattle.run.specs.StateAfter.{slice-here, slice-elsewhere}
 use Rattle.run.specs.Shapes.{inAll, usedOne, resultByte, resultPut, endedIf, served, renewed, lateUpTo, goneOn, endsHere}
@@ -56,6 +56,22 @@ unfolding choose
 unless-length l k v true = refl
 unless-length l k v false = length-set l k v
 
+or-true : (x : Bool) → (x || true) ≡ true
+or-true true = refl
+or-true false = refl
+
+or-none : (x : Bool) → (x || false) ≡ x
+or-none true = refl
+or-none false = refl
+
+-- So it is with a mark that is put if a test holds, and taken back if another does.
+close-next : (f : ℕ → Bool) (old l : List Bool) (i : ℕ) (last anew : Bool) → l ≡ overwrite f i old → f i ≡ choose anew false (getD old i false || last)
+    → choose anew (set l i false) (choose last (set l i true) l) ≡ overwrite f (i + 1) old
+unfolding choose
+close-next f old l i last true el ef = renew-next f old l false false i true el ef
+close-next f old l i true false el ef = renew-next f old l false true i true el (ef ∙ or-true (getD old i false))
+close-next f old l i false false el ef = renew-next f old l false false i false el (ef ∙ or-none (getD old i false))
+
 -- ---- the task that ran
 some-ran : (i : ℕ) → eqb (suc i) 0 ≡ false
 some-ran i = ne-eqb (suc i) 0 (λ q. omega arith)
@@ -69,14 +85,6 @@ unfolding choose
 put-result true over log k = refl
 put-result false true log k = refl
 put-result false false log k = refl
-
-or-true : (x : Bool) → (x || true) ≡ true
-or-true true = refl
-or-true false = refl
-
-or-none : (x : Bool) → (x || false) ≡ x
-or-none true = refl
-or-none false = refl
 
 -- and its end: it has ended exactly if it has a result
 ended-by : (done over : Bool) → not (eqb (choose done 1 (choose over 2 0)) 0) ≡ (done || over)
@@ -102,15 +110,15 @@ none-told true x = or-none x
 none-told false x = or-none x
 
 -- a fresh job, or the one that goes on
-fresh-used : (anew : Bool) (j : Job) → choose anew 0 (j .used) ≡ choose anew fresh j .used
-unfolding choose fresh
-fresh-used true j = refl
-fresh-used false j = refl
+fresh-used : (anew last : Bool) (j : Job) → choose anew 0 (j .used) ≡ choose anew fresh (closedAt last j) .used
+unfolding choose fresh closedAt
+fresh-used true last j = refl
+fresh-used false last j = refl
 
-fresh-ended : (anew : Bool) (j : Job) → choose anew false (j .ended) ≡ choose anew fresh j .ended
-unfolding choose fresh
-fresh-ended true j = refl
-fresh-ended false j = refl
+fresh-ended : (anew last : Bool) (j : Job) → choose anew false (j .ended || last) ≡ choose anew fresh (closedAt last j) .ended
+unfolding choose fresh closedAt
+fresh-ended true last j = refl
+fresh-ended false last j = refl
 
 module _ (s : State) (report : ℕ) where
   abbrev byteOf : ℕ → ℕ
@@ -182,7 +190,7 @@ module _ (s : State) (report : ℕ) where
 
     -- ---- late and fresh jobs
     pub late-served : (log : List ℕ) (n : ℕ) → lateUpTo (served s ran report) ran (byteOf ran) log n ≡ withLate s ran report log n
-    unfolding lateUpTo withLate served deadlineNext ageOf place offset currentOf periodOf
+    unfolding lateUpTo withLate served deadlineNext ageOf place offset currentOf periodOf dueOf
     late-served log zero = refl
     late-served log (suc i) = rw (ended-by-now i, late-served log i)
 
@@ -198,7 +206,7 @@ module _ (s : State) (report : ℕ) where
       used-renewed : overwrite (λ k. choose (releaseNext s k) 0 (at (usedOne ran (s .used)) k)) (s .count) (usedOne ran (s .used)) ≡ overwrite (λ k. jobAfter s ran report k .used) (s .count) (s .used)
       unfolding jobAfter
       used-renewed =
-          overwrite-inside _ _ (usedOne ran (s .used)) (s .count) (λ k _ l. ap (choose (releaseNext s k) 0) (used-after ran k (omega (arith, used-long))) ∙ fresh-used (releaseNext s k) (afterSlice s ran report k))
+          overwrite-inside _ _ (usedOne ran (s .used)) (s .count) (λ k _ l. ap (choose (releaseNext s k) 0) (used-after ran k (omega (arith, used-long))) ∙ fresh-used (releaseNext s k) (deadlineNext s k) (afterSlice s ran report k))
           ∙ used-shut
 
       ended-shut : overwrite (λ k. jobAfter s ran report k .ended) (s .count) (endedIf ran (byteOf ran) (s .ended)) ≡ overwrite (λ k. jobAfter s ran report k .ended) (s .count) (s .ended)
@@ -209,37 +217,38 @@ module _ (s : State) (report : ℕ) where
       unfolding endedIf
       ended-long = unless-length (s .ended) (ran - 1) true (eqb (byteOf ran) 0)
 
-      ended-renewed : overwrite (λ k. choose (releaseNext s k) false (getD (endedIf ran (byteOf ran) (s .ended)) k false)) (s .count) (endedIf ran (byteOf ran) (s .ended)) ≡ overwrite (λ k. jobAfter s ran report k .ended) (s .count) (s .ended)
+      ended-renewed : overwrite (λ k. choose (releaseNext s k) false (getD (endedIf ran (byteOf ran) (s .ended)) k false || deadlineNext s k)) (s .count) (endedIf ran (byteOf ran) (s .ended)) ≡ overwrite (λ k. jobAfter s ran report k .ended) (s .count) (s .ended)
       unfolding jobAfter
       ended-renewed =
-          overwrite-inside _ _ (endedIf ran (byteOf ran) (s .ended)) (s .count) (λ k _ l. ap (choose (releaseNext s k) false) (ended-after k (omega (arith, ended-long))) ∙ fresh-ended (releaseNext s k) (afterSlice s ran report k))
+          overwrite-inside _ _ (endedIf ran (byteOf ran) (s .ended)) (s .count) (λ k _ l. ap (λ (b : Bool). choose (releaseNext s k) false (b || deadlineNext s k)) (ended-after k (omega (arith, ended-long))) ∙ fresh-ended (releaseNext s k) (deadlineNext s k) (afterSlice s ran report k))
           ∙ ended-shut
 
       -- The state after the step.
       pub state-served : (clock : ℕ) → goneOn (renewed (served s ran report) (s .count)) clock (s .mode) ≡ stateAfter s ran clock report
-      unfolding goneOn renewed served stateAfter releaseNext ageOf periodOf
+      unfolding goneOn renewed served stateAfter deadlineNext releaseNext ageOf periodOf dueOf
       state-served clock =
-          ap₂ (λ u e. stateOf (s .periods) (s .runtimes) u e (s .count) (s .cycle) (s .position + 1) clock (s .mode)) used-renewed ended-renewed
+          ap₂ (λ u e. stateOf (s .periods) (s .deadlines) (s .runtimes) u e (s .count) (s .cycle) (s .position + 1) clock (s .mode)) used-renewed ended-renewed
 
 -- ---- a turn of the loop over the tasks
 module _ (t : State) (i : ℕ) (now : State) (is : now ≡ renewed t i) where
   -- the tests of the code are those of the rules
-  pub deadline-tested : (due : ℕ) → due ≡ at (now .periods) i → eqb (now .position % at (now .periods) i + 1) due ≡ deadlineNext t i
-  unfolding renewed deadlineNext ageOf periodOf
-  deadline-tested due ed = rw (ed, is, add-one)
+  pub deadline-tested : eqb (now .position % at (now .periods) i + 1) (at (now .deadlines) i) ≡ deadlineNext t i
+  unfolding renewed deadlineNext ageOf periodOf dueOf
+  deadline-tested = rw (is, add-one)
 
   pub release-tested : eqb (now .position % at (now .periods) i + 1) (at (now .periods) i) ≡ releaseNext t i
   unfolding renewed releaseNext ageOf periodOf
   release-tested = rw (is, add-one)
 
-  pub renewed-next : (used : List ℕ) (ended : List Bool) (anew : Bool) → anew ≡ releaseNext t i → used ≡ choose anew (set (now .used) i 0) (now .used) → ended ≡ choose anew (set (now .ended) i false) (now .ended)
-      → stateOf (now .periods) (now .runtimes) used ended (now .count) (now .cycle) (now .position) (now .clock) (now .mode) ≡ renewed t (i + 1)
+  pub renewed-next : (used : List ℕ) (ended : List Bool) (last anew : Bool) → last ≡ deadlineNext t i → anew ≡ releaseNext t i → used ≡ choose anew (set (now .used) i 0) (now .used)
+      → ended ≡ choose anew (set (now .ended) i false) (choose last (set (now .ended) i true) (now .ended))
+      → stateOf (now .periods) (now .deadlines) (now .runtimes) used ended (now .count) (now .cycle) (now .position) (now .clock) (now .mode) ≡ renewed t (i + 1)
   unfolding renewed
-  renewed-next used ended anew ea eu ee =
+  renewed-next used ended last anew el ea eu ee =
       rw is
-      (ap₂ (λ u e. stateOf (t .periods) (t .runtimes) u e (t .count) (t .cycle) (t .position) (t .clock) (t .mode))
+      (ap₂ (λ u e. stateOf (t .periods) (t .deadlines) (t .runtimes) u e (t .count) (t .cycle) (t .position) (t .clock) (t .mode))
       (eu ∙ renew-next _ (t .used) (now .used) 0 0 i anew (ap (λ (x : State). x .used) is) (ap (λ (b : Bool). choose b 0 (at (t .used) i)) (sym ea)))
-      (ee ∙ renew-next _ (t .ended) (now .ended) false false i anew (ap (λ (x : State). x .ended) is) (ap (λ (b : Bool). choose b false (getD (t .ended) i false)) (sym ea))))
+      (ee ∙ close-next _ (t .ended) (now .ended) i last anew (ap (λ (x : State). x .ended) is) (ap₂ (λ (a b : Bool). choose a false (getD (t .ended) i false || b)) (sym ea) (sym el))))
 
   placed : placeIn (now .periods) (now .cycle) (now .position) i ≡ place t i
   unfolding renewed

@@ -155,8 +155,8 @@ refused-some (suc n) m e z = omega arith
 
 -- What a caller holds after a step in place that raises the position and keeps the clock reading of an accepted one
 unfoldable pub heldAfter : Closed → State → List ℕ → List Bool → ℕ → State
-heldAfter Accepted s used ended clock = stateOf (s .periods) (s .runtimes) used ended (s .count) (s .cycle) (s .position + 1) clock (s .mode)
-heldAfter (Refused n) s used ended clock = stateOf (s .periods) (s .runtimes) used ended (s .count) (s .cycle) (s .position) (s .clock) (s .mode)
+heldAfter Accepted s used ended clock = stateOf (s .periods) (s .deadlines) (s .runtimes) used ended (s .count) (s .cycle) (s .position + 1) clock (s .mode)
+heldAfter (Refused n) s used ended clock = stateOf (s .periods) (s .deadlines) (s .runtimes) used ended (s .count) (s .cycle) (s .position) (s .clock) (s .mode)
 
 -- is what the step by value gives.
 pub in-place : (s : State) (table : List ℕ) (clock report : ℕ) (log log′ used : List ℕ) (ended : List Bool) (r : Closed) → SteppedIn s table clock report log log′ used ended r
@@ -166,7 +166,7 @@ in-place s table clock report log log′ used ended Accepted S =
     let none : stepRefusal s table clock report log ≡ 0 = accepted-none _ (S .answer) in
     record {
       answer = S .answer;
-      state = rw none (ap₂ (λ u d. stateOf (s .periods) (s .runtimes) u d (s .count) (s .cycle) (s .position + 1) clock (s .mode)) (rw none at (S .used)) (rw none at (S .ended)));
+      state = rw none (ap₂ (λ u d. stateOf (s .periods) (s .deadlines) (s .runtimes) u d (s .count) (s .cycle) (s .position + 1) clock (s .mode)) (rw none at (S .used)) (rw none at (S .ended)));
       bytes = S .bytes;
     }
 in-place s table clock report log log′ used ended (Refused n) S =
@@ -174,7 +174,7 @@ in-place s table clock report log log′ used ended (Refused n) S =
     record {
       answer = S .answer;
       state =
-          ap₂ (λ u d. stateOf (s .periods) (s .runtimes) u d (s .count) (s .cycle) (s .position) (s .clock) (s .mode))
+          ap₂ (λ u d. stateOf (s .periods) (s .deadlines) (s .runtimes) u d (s .count) (s .cycle) (s .position) (s .clock) (s .mode))
           (S .used ∙ sym (ap (λ (x : State). x .used) same)) (S .ended ∙ sym (ap (λ (x : State). x .ended) same))
           ∙ same;
       bytes = S .bytes;

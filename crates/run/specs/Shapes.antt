@@ -2,7 +2,7 @@
 use mathlib.Core.Path.{_≡_}
 use mathlib.Core.List.{List}
 use mathlib.Core.Bool.{Bool, true, false, not, _&&_, _||_}
-use Prim.Native.Nat.{ℕ, zero, suc, _+_, _-_, _/_}
+use Prim.Native.Nat.{ℕ, zero, suc, _+_, _-_, _/_, _%_}
 use lib.Dec.{ltb, leb, eqb}
 use lib.ListN.{length, getD, set}
 use Rattle.basis.specs.Bytes.{at, overwrite}
@@ -21,19 +21,26 @@ use Rattle.run.specs.Step.{nextClock, stateOf}
 abbrev pub job : ℕ → Bool → Job
 job used ended = record { used = used; ended = ended }
 
-unfoldable pub jobsOf : List ℕ → List ℕ → List ℕ → List Bool → ℕ → ℕ → ℕ
-jobsOf periods runtimes used ended count cycle =
-    choose (every (λ i. soundTask cycle (at periods i) (at runtimes i) (job (at used i) (getD ended i false))) count)
+unfoldable pub jobsOf : List ℕ → List ℕ → List ℕ → List ℕ → List Bool → ℕ → ℕ → ℕ → ℕ
+jobsOf periods deadlines runtimes used ended count cycle position =
+    choose (every (λ i. soundTask cycle (at periods i) (at deadlines i) (at runtimes i) (position % at periods i) (job (at used i) (getD ended i false))) count)
     (sum (λ i. cycle / at periods i) count)
     0
 
-unfoldable pub jobsIfSound : List ℕ → List ℕ → List ℕ → List Bool → ℕ → ℕ → ℕ → ℕ
-jobsIfSound periods runtimes used ended count cycle position =
-    choose (within 1 16 count && within 1 4096 cycle && leb position cycle) (jobsOf periods runtimes used ended count cycle) 0
+unfoldable pub jobsIfSound : List ℕ → List ℕ → List ℕ → List ℕ → List Bool → ℕ → ℕ → ℕ → ℕ
+jobsIfSound periods deadlines runtimes used ended count cycle position =
+    choose (within 1 16 count && within 1 4096 cycle && leb position cycle) (jobsOf periods deadlines runtimes used ended count cycle position) 0
+
+-- What was counted of a state of which the other parts are not at hand.
+pub record Counted (deadlines : List ℕ) (ended : List Bool) (count cycle position jobs : ℕ) : Type 0 where
+  pub periods : List ℕ
+  pub runtimes : List ℕ
+  pub used : List ℕ
+  pub is : jobs ≡ jobsIfSound periods deadlines runtimes used ended count cycle position
 
 -- ---- the scan for the first-ranking open task
 unfoldable pub openFirst : List ℕ → List Bool → ℕ → ℕ
-openFirst periods ended count = first (at periods) (λ i. choose (getD ended i false) 0 1) count
+openFirst deadlines ended count = first (at deadlines) (λ i. choose (getD ended i false) 0 1) count
 
 -- ---- asking
 pub record Answers (s : State) (table : List ℕ) (r : Asked) : Type 0 where
@@ -81,16 +88,16 @@ endsHere ran result i = choose (eqb result 0) false (eqb ran (i + 1))
 -- The state when the task that ran has had the slice, before fresh jobs begin. (The mode is not looked at from here on.)
 unfoldable pub served : State → ℕ → ℕ → State
 served s ran report =
-    stateOf (s .periods) (s .runtimes) (usedOne ran (s .used))
+    stateOf (s .periods) (s .deadlines) (s .runtimes) (usedOne ran (s .used))
     (endedIf ran (resultByte (s .runtimes) ran (inAll ran (s .used)) report) (s .ended))
     (s .count) (s .cycle) (s .position) (s .clock) Table
 
--- Such a state with fresh jobs as far as task n, and the log with late jobs as far as task n.
+-- Such a state with closed and fresh jobs as far as task n, and the log with late jobs as far as task n.
 unfoldable pub renewed : State → ℕ → State
 renewed s n =
-    stateOf (s .periods) (s .runtimes)
+    stateOf (s .periods) (s .deadlines) (s .runtimes)
     (overwrite (λ i. choose (releaseNext s i) 0 (at (s .used) i)) n (s .used))
-    (overwrite (λ i. choose (releaseNext s i) false (getD (s .ended) i false)) n (s .ended))
+    (overwrite (λ i. choose (releaseNext s i) false (getD (s .ended) i false || deadlineNext s i)) n (s .ended))
     (s .count) (s .cycle) (s .position) (s .clock) (s .mode)
 
 unfoldable pub lateUpTo : State → ℕ → ℕ → List ℕ → ℕ → List ℕ
@@ -101,4 +108,4 @@ lateUpTo s ran result log (suc i) =
 -- The slice is closed: one position further, at a new clock reading, in the mode of the run.
 unfoldable pub goneOn : State → ℕ → Mode → State
 goneOn s clock mode =
-    stateOf (s .periods) (s .runtimes) (s .used) (s .ended) (s .count) (s .cycle) (s .position + 1) clock mode
+    stateOf (s .periods) (s .deadlines) (s .runtimes) (s .used) (s .ended) (s .count) (s .cycle) (s .position + 1) clock mode

@@ -14,9 +14,9 @@ use Rattle.run.specs.declared.State.{State}
 unfoldable pub periodOf : State → ℕ → ℕ
 periodOf s i = at (s .periods) i
 
--- the deadline of its jobs, counted from the release: the end of the period,
-abbrev pub dueOf : State → ℕ → ℕ
-dueOf s i = periodOf s i
+-- the deadline of its jobs, counted from the release,
+unfoldable pub dueOf : State → ℕ → ℕ
+dueOf s i = at (s .deadlines) i
 
 -- the run-time of its job k: the same for all,
 unfoldable pub runtimeOf : State → ℕ → ℕ → ℕ
@@ -24,7 +24,7 @@ runtimeOf s i k = at (s .runtimes) i
 
 -- and what its job k is ranked by.
 abbrev pub keyOf : State → ℕ → ℕ → ℕ
-keyOf s i k = periodOf s i
+keyOf s i k = dueOf s i
 
 -- The number of its current job, and how many slices old that job is.
 unfoldable pub currentOf : State → ℕ → ℕ
@@ -50,16 +50,18 @@ unfoldable pub every : (ℕ → Bool) → ℕ → Bool
 every test zero = true
 every test (suc n) = every test n && test n
 
--- Each period from 1 to 4,096 and dividing the cycle; each run-time from 1 to its period; slices used at most the run-time,
--- and below it unless the job has ended.
-unfoldable pub soundTask : ℕ → ℕ → ℕ → Job → Bool
-soundTask cycle period runtime j =
-    within 1 4096 period && eqb (cycle % period) 0 && within 1 period runtime && leb (j .used) runtime && (j .ended || ltb (j .used) runtime)
+-- Each period from 1 to 4,096 and dividing the cycle; each run-time from 1 to its period; each deadline from the run-time to the
+-- period; slices used at most the run-time, and below it unless the job has ended; from the deadline to the next release the job has
+-- ended, its age being counted from its release.
+unfoldable pub soundTask : ℕ → ℕ → ℕ → ℕ → ℕ → Job → Bool
+soundTask cycle period due runtime age j =
+    within 1 4096 period && eqb (cycle % period) 0 && within 1 period runtime && within runtime period due && leb (j .used) runtime
+    && (j .ended || (ltb (j .used) runtime && ltb age due))
 
 -- 1 to 16 tasks; the cycle at most 4,096 and not 0; position from 0 to the cycle; every task as above.
 unfoldable pub sound : State → Bool
 sound s =
-    within 1 16 (s .count) && within 1 4096 (s .cycle) && leb (s .position) (s .cycle) && every (λ i. soundTask (s .cycle) (periodOf s i) (runtimeOf s i (currentOf s i)) (jobOf s i)) (s .count)
+    within 1 16 (s .count) && within 1 4096 (s .cycle) && leb (s .position) (s .cycle) && every (λ i. soundTask (s .cycle) (periodOf s i) (dueOf s i) (runtimeOf s i (currentOf s i)) (ageOf s i) (jobOf s i)) (s .count)
 
 -- ---- the log
 -- All jobs of task 1, then all of task 2, and so on: the jobs of the tasks before task i,

@@ -1,19 +1,22 @@
 -- An accepted step leaves a sound state, one slice further on, with the jobs that the rules say.
-use mathlib.Core.Path.{_≡_, refl, ap₂}
+use mathlib.Core.Path.{_≡_, refl, sym, ap, ap₂, _∙_}
 use mathlib.Core.List.{List}
-use mathlib.Core.Bool.{true, false, _||_}
+use mathlib.Core.Bool.{true, false, or-false, _||_}
 use mathlib.Core.Logic.{⊎-elim}
-use Prim.Native.Nat.{ℕ, suc, _+_, _≤_, _<_}
+use Prim.Native.Nat.{ℕ, suc, _+_, _%_, _≤_, _<_}
 use native.Mathlib.Omega.{arith}
+use native.Mathlib.Numerals.{add-one}
+use native.Mathlib.Nat.{mod-lt}
 use lib.Dec.{eqb}
 use lib.ListN.{length}
 use borrow.Author.Tests.{eqb-false, eq-eqb, ne-eqb}
-use Rattle.basis.specs.Choose.{choose-yes, choose-no, bool-cases, eq-or-ne, either-false}
+use Rattle.basis.specs.Slices.{mod-same, mod-next}
+use Rattle.basis.specs.Choose.{choose, choose-yes, choose-no, bool-cases, eq-or-ne, either-false}
 use Rattle.basis.specs.Bytes.{overwrite-length, overwrite-at}
 use Rattle.run.specs.declared.State.{State}
-use Rattle.run.specs.State.{Job, fresh, periodOf, dueOf, runtimeOf, keyOf, currentOf, jobOf, offset, jobCount, deadlineNext, releaseNext}
+use Rattle.run.specs.State.{Job, fresh, periodOf, dueOf, runtimeOf, keyOf, currentOf, ageOf, jobOf, offset, jobCount, deadlineNext, releaseNext}
 use Rattle.run.specs.Who.{running}
-use Rattle.run.specs.Step.{afterSlice, jobAfter, stateAfter}
+use Rattle.run.specs.Step.{afterSlice, closedAt, jobAfter, stateAfter}
 use Rattle.run.specs.Sound.{SoundTask, SoundState}
 use Rattle.run.specs.Accepted.{StepAccepted, who-runs}
 
@@ -31,15 +34,21 @@ module _ (s : State) (ran report i : ℕ) where
   unfolding jobAfter
   job-anew e = choose-yes (releaseNext s i) _ _ e
 
-  pub job-goes-on : releaseNext s i ≡ false → jobAfter s ran report i ≡ afterSlice s ran report i
+  pub job-closed : releaseNext s i ≡ false → jobAfter s ran report i ≡ closedAt (deadlineNext s i) (afterSlice s ran report i)
   unfolding jobAfter
-  job-goes-on e = choose-no (releaseNext s i) _ _ e
+  job-closed e = choose-no (releaseNext s i) _ _ e
 
-  -- A job that goes on and has not ended has its deadline still to come: no job runs on after it, because the deadline is the
-  -- task's next release.
-  pub open-not-late : releaseNext s i ≡ false → jobAfter s ran report i .ended ≡ false → deadlineNext s i ≡ false
-  unfolding releaseNext deadlineNext
-  open-not-late goes-on still-open = goes-on
+  -- One that has ended by its deadline is as it was.
+  pub closed-same : (deadlineNext s i ≡ true → afterSlice s ran report i .ended ≡ true) → closedAt (deadlineNext s i) (afterSlice s ran report i) ≡ afterSlice s ran report i
+  unfolding closedAt
+  closed-same h =
+      ⊎-elim
+      (λ (t : deadlineNext s i ≡ true). ap (λ b. record { used = afterSlice s ran report i .used; ended = b }) (ap (λ b. b || deadlineNext s i) (h t) ∙ sym (h t)))
+      (λ (f : deadlineNext s i ≡ false). ap (λ b. record { used = afterSlice s ran report i .used; ended = b }) (ap (λ b. afterSlice s ran report i .ended || b) f ∙ or-false (afterSlice s ran report i .ended)))
+      (bool-cases (deadlineNext s i))
+
+  pub job-goes-on : releaseNext s i ≡ false → (deadlineNext s i ≡ true → afterSlice s ran report i .ended ≡ true) → jobAfter s ran report i ≡ afterSlice s ran report i
+  job-goes-on e ended-by = job-closed e ∙ closed-same ended-by
 
 -- There is a place for every job; the arrays of the code have 16.
 pub record Room (s : State) : Type 0 where
@@ -63,7 +72,7 @@ pub record HandedOn (s after : State) (clock : ℕ) : Type 0 where
   pub room-kept : Room s → Room after
 
 pub handed-on : (s : State) (ran clock report : ℕ) → HandedOn s (stateAfter s ran clock report) clock
-unfolding stateAfter periodOf runtimeOf offset jobCount
+unfolding stateAfter periodOf dueOf runtimeOf offset jobCount
 handed-on s ran clock report = record {
   count-kept = refl;
   cycle-kept = refl;
@@ -83,30 +92,45 @@ handed-on s ran clock report = record {
 }
 
 -- ---- soundness
-module _ (cycle period runtime : ℕ) (j : Job) (T : SoundTask cycle period runtime j) where
-  -- another job of the task, which has used less or as much as it may
-  other-job : (k : Job) → k .used ≤ runtime → (k .ended ≡ false → k .used < runtime) → SoundTask cycle period runtime k
-  other-job k to below = record {
+module _ (cycle period due runtime age : ℕ) (j : Job) (T : SoundTask cycle period due runtime age j) where
+  -- another job of the task, or the same at another age, which has used less or as much as it may, and has ended where it is due
+  other-job : (later : ℕ) (k : Job) → k .used ≤ runtime → (k .ended ≡ false → k .used < runtime) → (k .ended ≡ false → later < due) → SoundTask cycle period due runtime later k
+  other-job later k to below before = record {
     period-from = T .period-from;
     period-to = T .period-to;
     period-divides = T .period-divides;
     runtime-from = T .runtime-from;
     runtime-to = T .runtime-to;
+    due-from = T .due-from;
+    due-to = T .due-to;
     used-to = to;
     used-below = below;
+    open-before = before;
   }
 
-  fresh-sound : SoundTask cycle period runtime fresh
+  fresh-sound : SoundTask cycle period due runtime 0 fresh
   unfolding fresh
-  fresh-sound = other-job fresh (omega arith) (λ _. T .runtime-from)
+  fresh-sound = other-job 0 fresh (omega arith) (λ _. T .runtime-from) (λ _. omega (arith, T .runtime-from, T .due-from))
 
-  ran-sound : (report : ℕ) → j .ended ≡ false → SoundTask cycle period runtime (record { used = j .used + 1; ended = eqb report 1 || eqb (j .used + 1) runtime })
+  ran-sound : (report : ℕ) → j .ended ≡ false → SoundTask cycle period due runtime age (record { used = j .used + 1; ended = eqb report 1 || eqb (j .used + 1) runtime })
   ran-sound report o =
-      other-job _ (omega (arith, T .used-below o))
+      other-job age _ (omega (arith, T .used-below o))
       (λ e.
       let less : j .used < runtime = T .used-below o in
       let ne : j .used + 1 ≡ runtime → ⊥ = eqb-false (j .used + 1) runtime (either-false (eqb report 1) (eqb (j .used + 1) runtime) .0 e .1) in
       omega arith)
+      (λ _. T .open-before o)
+
+  -- a slice older, and closed if that is its deadline
+  closed-sound : SoundTask cycle period due runtime (suc age) (closedAt (eqb (suc age) due) j)
+  unfolding closedAt
+  closed-sound =
+      other-job (suc age) _ (T .used-to)
+      (λ e. T .used-below (either-false (j .ended) (eqb (suc age) due) .0 e .0))
+      (λ e.
+      let h = either-false (j .ended) (eqb (suc age) due) .0 e in
+      let ne : suc age ≡ due → ⊥ = eqb-false (suc age) due (h .1) in
+      omega (arith, T .open-before (h .0)))
 
 -- ---- the state after an accepted step
 module _ (s : State) (table : List ℕ) (clock report : ℕ) (log : List ℕ) (went : StepAccepted s table clock report log) where
@@ -125,29 +149,43 @@ module _ (s : State) (table : List ℕ) (clock report : ℕ) (log : List ℕ) (w
       (overwrite-at (λ k. jobAfter s ran report k .ended) (s .ended) false (s .count) i l (omega (arith, R .ended-room)))
 
   module _ (i : ℕ) (l : i < s .count) where
-    before-sound : SoundTask (s .cycle) (periodOf s i) (runtimeOf s i (currentOf s i)) (jobOf s i)
+    abbrev Sound-with : ℕ → Job → Type 0
+    Sound-with = SoundTask (s .cycle) (periodOf s i) (dueOf s i) (runtimeOf s i (currentOf s i))
+
+    before-sound : Sound-with (ageOf s i) (jobOf s i)
     before-sound = went .asked .is-sound .tasks-sound i l
 
-    abbrev Sound-with : Job → Type 0
-    Sound-with = SoundTask (s .cycle) (periodOf s i) (runtimeOf s i (currentOf s i))
-
-    slice-sound : Sound-with (afterSlice s ran report i)
+    slice-sound : Sound-with (ageOf s i) (afterSlice s ran report i)
     slice-sound =
         ⊎-elim
-        (λ (e : ran ≡ suc i). rw (slice-here s ran report i e) (ran-sound _ _ _ _ before-sound report (who-runs s table (went .asked) i e .job-open)))
+        (λ (e : ran ≡ suc i). rw (slice-here s ran report i e) (ran-sound _ _ _ _ _ _ before-sound report (who-runs s table (went .asked) i e .job-open)))
         (λ (ne : ran ≡ suc i → ⊥). rw (slice-elsewhere s ran report i ne) before-sound)
         (eq-or-ne ran (suc i))
 
-    turned-sound : Sound-with (jobAfter s ran report i)
+    -- At the next position the job is a slice older, or fresh.
+    next-age : (s .position + 1) % periodOf s i ≡ choose (releaseNext s i) 0 (suc (ageOf s i))
+    unfolding releaseNext ageOf
+    next-age =
+        ⊎-elim
+        (λ (e : suc (s .position % periodOf s i) ≡ periodOf s i).
+        ap (λ (x : ℕ). x % periodOf s i) (add-one (s .position)) ∙ mod-next (periodOf s i) (before-sound .period-from) (s .position) e ∙ sym (choose-yes _ _ _ (eq-eqb _ _ e)))
+        (λ (ne : suc (s .position % periodOf s i) ≡ periodOf s i → ⊥).
+        ap (λ (x : ℕ). x % periodOf s i) (add-one (s .position))
+        ∙ mod-same (periodOf s i) (before-sound .period-from) (s .position) (omega (arith, mod-lt (s .position) (before-sound .period-from)))
+        ∙ sym (choose-no _ _ _ (ne-eqb _ _ ne)))
+        (eq-or-ne (suc (s .position % periodOf s i)) (periodOf s i))
+
+    turned-sound : Sound-with ((s .position + 1) % periodOf s i) (jobAfter s ran report i)
+    unfolding deadlineNext
     turned-sound =
         ⊎-elim
-        (λ (e : releaseNext s i ≡ true). rw (job-anew s ran report i e) (fresh-sound _ _ _ _ before-sound))
-        (λ (e : releaseNext s i ≡ false). rw (job-goes-on s ran report i e) slice-sound)
+        (λ (e : releaseNext s i ≡ true). rw (job-anew s ran report i e, next-age ∙ choose-yes _ _ _ e) (fresh-sound _ _ _ _ _ _ before-sound))
+        (λ (e : releaseNext s i ≡ false). rw (job-closed s ran report i e, next-age ∙ choose-no _ _ _ e) (closed-sound _ _ _ _ _ _ slice-sound))
         (bool-cases (releaseNext s i))
 
   -- The state is sound. (The run-time of a fresh job is that of the job before it.)
   pub state-after-sound : Room s → SoundState after
-  unfolding stateAfter periodOf runtimeOf
+  unfolding stateAfter periodOf dueOf runtimeOf ageOf
   state-after-sound R = record {
     count-from = went .asked .is-sound .count-from;
     count-to = went .asked .is-sound .count-to;

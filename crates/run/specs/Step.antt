@@ -66,15 +66,20 @@ withLate s ran report log (suc i) =
 unfoldable pub logAfter : State → ℕ → ℕ → List ℕ → List ℕ
 logAfter s ran report log = withLate s ran report (withResult s ran report log) (s .count)
 
+-- It is closed there: it has ended, and the task waits for its next release.
+unfoldable pub closedAt : Bool → Job → Job
+closedAt last j = record { used = j .used; ended = j .ended || last }
+
 -- And each task with a release there begins a fresh job.
 unfoldable pub jobAfter : State → ℕ → ℕ → ℕ → Job
-jobAfter s ran report i = choose (releaseNext s i) fresh (afterSlice s ran report i)
+jobAfter s ran report i = choose (releaseNext s i) fresh (closedAt (deadlineNext s i) (afterSlice s ran report i))
 
 -- The position rises by one. Places beyond the task count are handed on.
 unfoldable pub stateAfter : State → ℕ → ℕ → ℕ → State
 stateAfter s ran clock report =
     record {
       periods = s .periods;
+      deadlines = s .deadlines;
       runtimes = s .runtimes;
       used = overwrite (λ i. jobAfter s ran report i .used) (s .count) (s .used);
       ended = overwrite (λ i. jobAfter s ran report i .ended) (s .count) (s .ended);
@@ -105,9 +110,9 @@ pub record Stepped (s : State) (table : List ℕ) (clock report : ℕ) (log log�
   pub bytes : log′ ≡ nextLog (stepRefusal s table clock report log) log (logAfter s (running s table) report log)
 
 -- The same of a state that lies in arrays of the caller's, by its parts: what the arrays and the log hold afterwards.
-abbrev pub stateOf : List ℕ → List ℕ → List ℕ → List Bool → ℕ → ℕ → ℕ → ℕ → Mode → State
-stateOf periods runtimes used ended count cycle position clock mode =
-    record { periods = periods; runtimes = runtimes; used = used; ended = ended; count = count; cycle = cycle; position = position; clock = clock; mode = mode }
+abbrev pub stateOf : List ℕ → List ℕ → List ℕ → List ℕ → List Bool → ℕ → ℕ → ℕ → ℕ → Mode → State
+stateOf periods deadlines runtimes used ended count cycle position clock mode =
+    record { periods = periods; deadlines = deadlines; runtimes = runtimes; used = used; ended = ended; count = count; cycle = cycle; position = position; clock = clock; mode = mode }
 
 pub record SteppedIn (s : State) (table : List ℕ) (clock report : ℕ) (log log′ used′ : List ℕ) (ended′ : List Bool) (r : Closed) : Type 0 where
   pub answer : r ≡ answerOf (stepRefusal s table clock report log)

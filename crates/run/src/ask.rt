@@ -1,29 +1,22 @@
 // Who runs in the slice at the position, and refusals 9 to 11.
 ghost use mathlib.Core.Path.{_≡_};
 ghost use mathlib.Core.Bool.{false};
+ghost use mathlib.Core.List.{List};
 ghost use Prim.Native.Nat.{ℕ, _-_, _≤_, _<_};
 ghost use lib.ListN.{getD};
 ghost use Rattle.basis.specs.Bytes.{at};
 ghost use Rattle.basis.specs.Choose.{choose};
 ghost use Rattle.plan.specs.Plan.{firstOf};
 ghost use Rattle.run.specs.Step.{stateOf};
-ghost use Rattle.run.specs.Shapes.{openFirst, tableAsk, Answers};
+ghost use Rattle.run.specs.Shapes.{jobsIfSound, Counted, openFirst, tableAsk, Answers};
 use crate::Mode;
-use crate::sound::jobs_if_sound;
 use readings::Entry;
 
-// The deadline of a task's jobs, counted from the release.
-pub(crate) fn due_of(period: u32) -> u32
-    ensures { λ r. ⌜ r ≡ period ⌝ }
+// What a task's jobs are ranked by: smaller first.
+fn key_of(deadline: u32) -> u32
+    ensures { λ r. ⌜ r ≡ deadline ⌝ }
 {
-    period
-}
-
-// What its jobs are ranked by: smaller first.
-fn key_of(period: u32) -> u32
-    ensures { λ r. ⌜ r ≡ period ⌝ }
-{
-    period
+    deadline
 }
 
 // What asking comes to: a refusal by its number, or 0 and then the job count and the entry of the task that runs.
@@ -34,9 +27,9 @@ pub(crate) struct Asked {
 }
 
 // A task against the first-ranking open task so far, by their entries. Of equal keys the earlier stays.
-fn better(periods: &[u32; 16], best: usize, task: usize, ended: bool) -> usize
+fn better(deadlines: &[u32; 16], best: usize, task: usize, ended: bool) -> usize
     requires { ⌜ (1 ≤ task) × (task ≤ 16) × (best ≤ 16) ⌝ }
-    ensures { λ r. ⌜ r ≡ firstOf (at (now (periods .entry))) (choose ended 0 1) (task - 1) best ⌝ }
+    ensures { λ r. ⌜ r ≡ firstOf (at (now (deadlines .entry))) (choose ended 0 1) (task - 1) best ⌝ }
 {
     if ended {
         return best;
@@ -44,22 +37,22 @@ fn better(periods: &[u32; 16], best: usize, task: usize, ended: bool) -> usize
     if best == 0 {
         return task;
     }
-    if key_of(periods[task - 1]) < key_of(periods[best - 1]) {
+    if key_of(deadlines[task - 1]) < key_of(deadlines[best - 1]) {
         return task;
     }
     best
 }
 
-fn first_open(periods: &[u32; 16], ended: &[bool; 16], count: usize) -> usize
+fn first_open(deadlines: &[u32; 16], ended: &[bool; 16], count: usize) -> usize
     requires { ⌜ count ≤ 16 ⌝ }
-    ensures { λ r. ⌜ r ≡ openFirst (now (periods .entry)) (now (ended .entry)) count ⌝ }
+    ensures { λ r. ⌜ r ≡ openFirst (now (deadlines .entry)) (now (ended .entry)) count ⌝ }
 {
     let mut best = 0;
     let mut i = 0;
     while i < count {
         let is_ended = ended[i];
         i += 1;
-        best = better(periods, best, i, is_ended);
+        best = better(deadlines, best, i, is_ended);
     }
     best
 }
@@ -113,21 +106,20 @@ fn by_table(
     }
 }
 
-// Who runs, in the order of the refusals; whatever the clock.
+// Who runs, in the order of the refusals, given the job count of a sound state, 0 of any other; whatever the clock.
 pub(crate) fn ask<'a>(
-    periods: &'a [u32; 16],
-    runtimes: &'a [u32; 16],
-    used: &'a [u32; 16],
+    deadlines: &'a [u32; 16],
     ended: &'a [bool; 16],
     count: usize,
     cycle: u32,
     position: u32,
+    jobs: u32,
     mode: Mode,
     table: &[u8],
 ) -> Asked
-    ensures { λ r. ⌜ ((clock : ℕ) → Answers (stateOf (now (periods .entry)) (now (runtimes .entry)) (now (used .entry)) (now (ended .entry)) count cycle position clock mode) (now (table .entry)) r) ⌝ }
+    requires { ⌜ Counted (now deadlines) (now ended) count cycle position jobs ⌝ }
+    ensures { λ r. ⌜ ((periods runtimes used : List ℕ) (clock : ℕ) → jobs ≡ jobsIfSound periods (now (deadlines .entry)) runtimes used (now (ended .entry)) count cycle position → Answers (stateOf periods (now (deadlines .entry)) runtimes used (now (ended .entry)) count cycle position clock mode) (now (table .entry)) r) ⌝ }
 {
-    let jobs = jobs_if_sound(periods, runtimes, used, ended, count, cycle, position);
     if jobs == 0 {
         return refusal(9);
     }
@@ -139,7 +131,7 @@ pub(crate) fn ask<'a>(
         Mode::Filling => Asked {
             number: 0,
             jobs,
-            ran: first_open(periods, ended, count),
+            ran: first_open(deadlines, ended, count),
         },
     }
 }

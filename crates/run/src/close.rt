@@ -1,6 +1,6 @@
 // What closing a slice does, and refusals 12 to 14.
 ghost use mathlib.Core.Path.{_≡_};
-ghost use mathlib.Core.Bool.{false, not, _&&_, _||_};
+ghost use mathlib.Core.Bool.{true, false, not, _&&_, _||_};
 ghost use Prim.Native.Nat.{_-_, _≤_, _<_};
 ghost use lib.ListN.{length, set};
 ghost use Rattle.basis.specs.Bytes.{at};
@@ -149,13 +149,17 @@ pub(crate) fn renew_used(used: &mut [u32; 16], i: usize, anew: bool)
     used[i] = 0;
 }
 
-// and it has not ended.
-pub(crate) fn renew_ended(ended: &mut [bool; 16], i: usize, anew: bool)
+// and it has not ended. At a deadline before that the job is closed: it has ended.
+pub(crate) fn renew_ended(ended: &mut [bool; 16], i: usize, last: bool, anew: bool)
     requires { ⌜ i < 16 ⌝ }
-    ensures { λ _. ⌜ now (ended .exit) ≡ choose anew (set (now (ended .entry)) i false) (now (ended .entry)) ⌝ }
+    ensures { λ _. ⌜ now (ended .exit) ≡ choose anew (set (now (ended .entry)) i false) (choose last (set (now (ended .entry)) i true) (now (ended .entry))) ⌝ }
 {
-    if !anew {
+    if anew {
+        ended[i] = false;
         return;
     }
-    ended[i] = false;
+    if !last {
+        return;
+    }
+    ended[i] = true;
 }

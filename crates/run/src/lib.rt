@@ -17,10 +17,11 @@ pub enum Mode {
     Filling,
 }
 
-// The state of a run: of each task its period and run-time, and of its current job the slices that it has used and whether it
+// The state of a run: of each task its period, deadline and run-time, and of its current job the slices that it has used and whether it
 // has ended. Anyone may hand in any bits: it is checked, never trusted.
 pub struct State {
     pub periods: [u32; 16],
+    pub deadlines: [u32; 16],
     pub runtimes: [u32; 16],
     pub used: [u32; 16],
     pub ended: [bool; 16],
@@ -80,14 +81,23 @@ pub fn who(state: State, table: &[u8]) -> Runner
     ensures { λ r. ⌜ r ≡ whoOf state (now (table .entry)) ⌝ }
 {
     let mode = state.mode;
-    let asked = ask::ask(
+    let jobs = sound::jobs_if_sound(
         &state.periods,
+        &state.deadlines,
         &state.runtimes,
         &state.used,
         &state.ended,
         state.count,
         state.cycle,
         state.position,
+    );
+    let asked = ask::ask(
+        &state.deadlines,
+        &state.ended,
+        state.count,
+        state.cycle,
+        state.position,
+        jobs,
         mode,
         table,
     );
@@ -105,6 +115,7 @@ pub fn who(state: State, table: &[u8]) -> Runner
 // nothing has changed.
 pub fn step_in_place<'a>(
     periods: &'a [u32; 16],
+    deadlines: &'a [u32; 16],
     runtimes: &'a [u32; 16],
     used: &mut [u32; 16],
     ended: &mut [bool; 16],
@@ -118,19 +129,19 @@ pub fn step_in_place<'a>(
     clock: u32,
     report: u8,
 ) -> Closed
-    ensures { λ r. ⌜ SteppedIn (stateOf (now (periods .entry)) (now (runtimes .entry)) (now (used .entry)) (now (ended .entry)) count cycle position last mode) (now (table .entry)) clock report (now (log .entry)) (now (log .exit)) (now (used .exit)) (now (ended .exit)) r ⌝ }
+    ensures { λ r. ⌜ SteppedIn (stateOf (now (periods .entry)) (now (deadlines .entry)) (now (runtimes .entry)) (now (used .entry)) (now (ended .entry)) count cycle position last mode) (now (table .entry)) clock report (now (log .entry)) (now (log .exit)) (now (used .exit)) (now (ended .exit)) r ⌝ }
 {
-    let asked = ask::ask(
+    let jobs = sound::jobs_if_sound(
         periods,
+        deadlines,
         runtimes,
         used,
         ended,
         count,
         cycle,
         position,
-        mode,
-        table,
     );
+    let asked = ask::ask(deadlines, ended, count, cycle, position, jobs, mode, table);
     if asked.number != 0 {
         return Closed::Refused(asked.number);
     }
@@ -147,19 +158,20 @@ pub fn step_in_place<'a>(
     while i < count {
         let period = periods[i];
         let age = position % period + 1;
+        let last = age == deadlines[i];
         close::mark_late(
             log,
             periods,
             cycle,
             position,
             i,
-            age == ask::due_of(period),
+            last,
             ended[i],
             ran,
             result,
         );
         close::renew_used(used, i, age == period);
-        close::renew_ended(ended, i, age == period);
+        close::renew_ended(ended, i, last, age == period);
         i += 1;
     }
     Closed::Accepted
@@ -171,11 +183,13 @@ pub fn step(state: State, table: &[u8], log: &mut [u8], clock: u32, report: u8) 
 {
     let mode = state.mode;
     let periods = state.periods;
+    let deadlines = state.deadlines;
     let runtimes = state.runtimes;
     let mut used = state.used;
     let mut ended = state.ended;
     let answer = step_in_place(
         &periods,
+        &deadlines,
         &runtimes,
         &mut used,
         &mut ended,
@@ -196,6 +210,7 @@ pub fn step(state: State, table: &[u8], log: &mut [u8], clock: u32, report: u8) 
         answer,
         state: State {
             periods,
+            deadlines,
             runtimes,
             used,
             ended,

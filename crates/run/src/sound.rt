@@ -1,6 +1,6 @@
 // Refusal 9: state not sound.
 ghost use mathlib.Core.Path.{_≡_};
-ghost use Prim.Native.Nat.{_≤_};
+ghost use Prim.Native.Nat.{_≤_, _%_};
 ghost use Rattle.basis.specs.Choose.{within};
 ghost use Rattle.run.specs.State.{soundTask};
 ghost use Rattle.run.specs.Shapes.{job, jobsOf, jobsIfSound};
@@ -11,8 +11,16 @@ fn is_within(low: u32, high: u32, x: u32) -> bool
     if x < low { false } else { x <= high }
 }
 
-fn sound_task(cycle: u32, period: u32, runtime: u32, used: u32, ended: bool) -> bool
-    ensures { λ r. ⌜ r ≡ soundTask cycle period runtime (job used ended) ⌝ }
+fn sound_task(
+    cycle: u32,
+    position: u32,
+    period: u32,
+    deadline: u32,
+    runtime: u32,
+    used: u32,
+    ended: bool,
+) -> bool
+    ensures { λ r. ⌜ r ≡ soundTask cycle period deadline runtime (position % period) (job used ended) ⌝ }
 {
     if !is_within(1, 4096, period) {
         return false;
@@ -20,35 +28,58 @@ fn sound_task(cycle: u32, period: u32, runtime: u32, used: u32, ended: bool) -> 
     if cycle % period != 0 {
         return false;
     }
-    if !is_within(1, period, runtime) {
+    if runtime == 0 {
         return false;
     }
-    if used < runtime {
-        return true;
+    if deadline < runtime {
+        return false;
+    }
+    if period < deadline {
+        return false;
     }
     if runtime < used {
         return false;
     }
-    ended
+    if ended {
+        return true;
+    }
+    if used == runtime {
+        return false;
+    }
+    // no job is older than its period: spares a division
+    if deadline == period {
+        return true;
+    }
+    position % period < deadline
 }
 
 // The jobs of all tasks, or 0 where one of them is not sound.
 fn count_jobs<'a>(
     periods: &'a [u32; 16],
+    deadlines: &'a [u32; 16],
     runtimes: &'a [u32; 16],
     used: &'a [u32; 16],
     ended: &'a [bool; 16],
     count: usize,
     cycle: u32,
+    position: u32,
 ) -> u32
     requires { ⌜ (1 ≤ count) × (count ≤ 16) × (1 ≤ cycle) × (cycle ≤ 4096) ⌝ }
-    ensures { λ r. ⌜ r ≡ jobsOf (now (periods .entry)) (now (runtimes .entry)) (now (used .entry)) (now (ended .entry)) count cycle ⌝ }
+    ensures { λ r. ⌜ r ≡ jobsOf (now (periods .entry)) (now (deadlines .entry)) (now (runtimes .entry)) (now (used .entry)) (now (ended .entry)) count cycle position ⌝ }
 {
     let mut jobs: u32 = 0;
     let mut i = 0;
     while i < count {
         let period = periods[i];
-        if !sound_task(cycle, period, runtimes[i], used[i], ended[i]) {
+        if !sound_task(
+            cycle,
+            position,
+            period,
+            deadlines[i],
+            runtimes[i],
+            used[i],
+            ended[i],
+        ) {
             return 0;
         }
         jobs += cycle / period;
@@ -60,6 +91,7 @@ fn count_jobs<'a>(
 // The job count of a sound state, 0 of any other. Places beyond the task count are not looked at.
 pub(crate) fn jobs_if_sound<'a>(
     periods: &'a [u32; 16],
+    deadlines: &'a [u32; 16],
     runtimes: &'a [u32; 16],
     used: &'a [u32; 16],
     ended: &'a [bool; 16],
@@ -67,7 +99,7 @@ pub(crate) fn jobs_if_sound<'a>(
     cycle: u32,
     position: u32,
 ) -> u32
-    ensures { λ r. ⌜ r ≡ jobsIfSound (now (periods .entry)) (now (runtimes .entry)) (now (used .entry)) (now (ended .entry)) count cycle position ⌝ }
+    ensures { λ r. ⌜ r ≡ jobsIfSound (now (periods .entry)) (now (deadlines .entry)) (now (runtimes .entry)) (now (used .entry)) (now (ended .entry)) count cycle position ⌝ }
 {
     if count < 1 {
         return 0;
@@ -81,5 +113,14 @@ pub(crate) fn jobs_if_sound<'a>(
     if cycle < position {
         return 0;
     }
-    count_jobs(periods, runtimes, used, ended, count, cycle)
+    count_jobs(
+        periods,
+        deadlines,
+        runtimes,
+        used,
+        ended,
+        count,
+        cycle,
+        position,
+    )
 }

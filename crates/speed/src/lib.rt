@@ -45,32 +45,34 @@ fn kept(count: usize) -> usize
     if count < 16 { count } else { 16 }
 }
 
-// The task whose three numbers begin at a place.
+// The task whose four numbers begin at a place.
 fn task_at(numbers: &[u32], at: usize) -> Task
-    requires { ⌜ at + 2 < length (now numbers) ⌝ }
+    requires { ⌜ at + 3 < length (now numbers) ⌝ }
 {
     Task {
         period: numbers[at],
         runtime: numbers[at + 1],
         memory: numbers[at + 2],
+        deadline: numbers[at + 3],
     }
 }
 
-// The list of numbers: period, run-time and memory of a task, then of the next.
+// The list of numbers: period, run-time, memory and deadline of a task, then of the next.
 fn list_of(numbers: &[u32]) -> TaskList {
-    let count = numbers.len() / 3;
+    let count = numbers.len() / 4;
     let mut list = TaskList {
         tasks: [Task {
             period: 0,
             runtime: 0,
             memory: 0,
+            deadline: 0,
         }; 16],
         count,
     };
     let most = kept(count);
     let mut i = 0;
     while i < most {
-        let task = task_at(numbers, i * 3);
+        let task = task_at(numbers, i * 4);
         list.tasks[i] = task;
         i += 1;
     }
@@ -248,6 +250,7 @@ pub extern "C" fn speed_steps(
     let state = started.state;
     let by = state.mode;
     let periods = state.periods;
+    let deadlines = state.deadlines;
     let runtimes = state.runtimes;
     let mut used = state.used;
     let mut ended = state.ended;
@@ -258,6 +261,7 @@ pub extern "C" fn speed_steps(
         let reading = std::num::wrapping_add_u32(last, 1);
         let answer = run::step_in_place(
             &periods,
+            &deadlines,
             &runtimes,
             &mut used,
             &mut ended,

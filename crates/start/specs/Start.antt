@@ -10,7 +10,7 @@ use Rattle.basis.specs.Choose.{choose}
 use Rattle.basis.specs.Bytes.{overwrite}
 use Rattle.basis.specs.Answer.{Answer, none}
 use Rattle.tasks.specs.declared.TaskList.{TaskList}
-use Rattle.tasks.specs.List.{taskAt, runtimeOf}
+use Rattle.tasks.specs.List.{taskAt, dueOf, runtimeOf}
 use Rattle.verdict.specs.declared.Verdict.{Verdict}
 use Rattle.verdict.specs.declared.Verdict.the-variants as verdict
 use Rattle.verdict.specs.Verdict.{verdictOf}
@@ -35,6 +35,7 @@ unfoldable pub startState : TaskList → ℕ → Mode → ℕ → State
 startState l cycle m clock =
     record {
       periods = overwrite (λ i. taskAt (l .tasks) i .period) (l .count) (replicate 16 0);
+      deadlines = overwrite (λ i. dueOf (taskAt (l .tasks) i)) (l .count) (replicate 16 0);
       runtimes = overwrite (λ i. runtimeOf (taskAt (l .tasks) i) 0) (l .count) (replicate 16 0);
       used = replicate 16 0;
       ended = replicate 16 false;
@@ -50,6 +51,7 @@ unfoldable pub noRun : State
 noRun =
     record {
       periods = replicate 16 0;
+      deadlines = replicate 16 0;
       runtimes = replicate 16 0;
       used = replicate 16 0;
       ended = replicate 16 false;
@@ -60,7 +62,7 @@ noRun =
       mode = mode.Table;
     }
 
--- ---- the answer: refusals 1 to 7 as the verdict gives them, then 12: log shorter than the job count
+-- ---- the answer: refusals 1 to 7 and 20 as the verdict gives them, then 12: log shorter than the job count
 unfoldable pub begunOf : Verdict → ℕ → Begun
 begunOf (verdict.Refused number task margin reached period) room = begun.Refused number task margin reached period
 begunOf (verdict.Accepted cycle jobs task margin) room = choose (ltb room jobs) (begun.Refused 12 0 (pos 0) 0 0) begun.Accepted

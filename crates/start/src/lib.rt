@@ -3,11 +3,12 @@ ghost use mathlib.Core.Path.{_≡_};
 ghost use Prim.Native.Nat.{_≤_};
 ghost use lib.ListN.{length};
 ghost use Rattle.basis.specs.Bytes.{overwrite};
-ghost use Rattle.tasks.specs.List.{taskAt, runtimeOf};
+ghost use Rattle.tasks.specs.List.{taskAt, dueOf, runtimeOf};
 ghost use Rattle.start.specs.Start.{modeOf, noRun, Begins};
 use run::Mode;
 use run::State;
 use tasks::TaskList;
+use tasks::due_of;
 use tasks::runtime_of;
 use verdict::Verdict;
 
@@ -46,15 +47,21 @@ fn mode_of(asked: Asked) -> Mode
     }
 }
 
-// Periods and run-times of the tasks; places beyond the task count stay.
-fn read(list: TaskList, periods: &mut [u32; 16], runtimes: &mut [u32; 16])
+// Periods, deadlines and run-times of the tasks; places beyond the task count stay.
+fn read(
+    list: TaskList,
+    periods: &mut [u32; 16],
+    deadlines: &mut [u32; 16],
+    runtimes: &mut [u32; 16],
+)
     requires { ⌜ list .count ≤ 16 ⌝ }
-    ensures { λ _. ⌜ (now (periods .exit) ≡ overwrite (λ i. taskAt (list .tasks) i .period) (list .count) (now (periods .entry))) × (now (runtimes .exit) ≡ overwrite (λ i. runtimeOf (taskAt (list .tasks) i) 0) (list .count) (now (runtimes .entry))) ⌝ }
+    ensures { λ _. ⌜ (now (periods .exit) ≡ overwrite (λ i. taskAt (list .tasks) i .period) (list .count) (now (periods .entry))) × (now (deadlines .exit) ≡ overwrite (λ i. dueOf (taskAt (list .tasks) i)) (list .count) (now (deadlines .entry))) × (now (runtimes .exit) ≡ overwrite (λ i. runtimeOf (taskAt (list .tasks) i) 0) (list .count) (now (runtimes .entry))) ⌝ }
 {
     let mut i = 0;
     while i < list.count {
         let task = list.tasks[i];
         periods[i] = task.period;
+        deadlines[i] = due_of(task);
         runtimes[i] = runtime_of(task);
         i += 1;
     }
@@ -66,6 +73,7 @@ fn no_run() -> State
 {
     State {
         periods: [0u32; 16],
+        deadlines: [0u32; 16],
         runtimes: [0u32; 16],
         used: [0u32; 16],
         ended: [false; 16],
@@ -134,12 +142,14 @@ pub fn start(list: TaskList, supply: u32, asked: Asked, clock: u32, log: &mut [u
             }
             clear(log, jobs as usize);
             let mut periods = [0u32; 16];
+            let mut deadlines = [0u32; 16];
             let mut runtimes = [0u32; 16];
-            read(list, &mut periods, &mut runtimes);
+            read(list, &mut periods, &mut deadlines, &mut runtimes);
             return Started {
                 answer: Begun::Accepted,
                 state: State {
                     periods,
+                    deadlines,
                     runtimes,
                     used: [0u32; 16],
                     ended: [false; 16],

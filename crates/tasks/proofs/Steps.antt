@@ -35,7 +35,7 @@ module _ (find : ℕ → Answer) where
   pub found-here : (n i : ℕ) (says : Answer) → i < n → firstFound find i .number ≡ 0 → find i ≡ says → (says .number ≡ 0 → ⊥) → firstFound find n ≡ says
   found-here n i says l so-far e some = found-at find n i l so-far (λ z. some (sym (ap (λ (a : Answer). a .number) e) ∙ z)) ∙ e
 
-pub of-task-at : (ts : List Task) (i : ℕ) (g : Answer) → g ≡ ofNumbers (taskAt ts i .period) (taskAt ts i .runtime) (i + 1) → g ≡ ofTask ts i
+pub of-task-at : (ts : List Task) (i : ℕ) (g : Answer) → g ≡ ofNumbers (taskAt ts i .period) (taskAt ts i .runtime) (taskAt ts i .deadline) (i + 1) → g ≡ ofTask ts i
 unfolding ofTask
 of-task-at ts i g e = rw (← add-one i) e
 

@@ -1,4 +1,4 @@
--- What bounds a task list: refusals 1 to 6, in the order in which they are looked for, and the cycle and job count of a
+-- What bounds a task list: refusals 1 to 6 and 20, in the order in which they are looked for, and the cycle and job count of a
 -- list that keeps all bounds.
 use mathlib.Core.List.{List}
 use mathlib.Core.Bool.{not}
@@ -35,18 +35,20 @@ cycleOf l = multiple (l .tasks) (l .count)
 unfoldable pub jobsOf : TaskList → ℕ
 jobsOf l = jobSum (l .tasks) (cycleOf l) (l .count)
 
--- ---- refusals 1 to 6
+-- ---- refusals 1 to 6 and 20
 -- 1: no tasks. 2: more than 16.
 unfoldable pub ofCount : ℕ → Answer
 ofCount n = choose (eqb n 0) (refusal 1 0) (choose (ltb 16 n) (refusal 2 0) none)
 
--- 3: period outside 1 to 4,096. 4: run-time 0 or above the period. Both name that task.
-unfoldable pub ofNumbers : ℕ → ℕ → ℕ → Answer
-ofNumbers period runtime task =
-    choose (not (within 1 4096 period)) (refusal 3 task) (choose (not (within 1 period runtime)) (refusal 4 task) none)
+-- 3: period outside 1 to 4,096. 4: run-time 0 or above the period. 20: deadline below the run-time or above the period. Each names
+-- that task.
+unfoldable pub ofNumbers : ℕ → ℕ → ℕ → ℕ → Answer
+ofNumbers period runtime deadline task =
+    choose (not (within 1 4096 period)) (refusal 3 task)
+    (choose (not (within 1 period runtime)) (refusal 4 task) (choose (not (within runtime period deadline)) (refusal 20 task) none))
 
 unfoldable pub ofTask : List Task → ℕ → Answer
-ofTask ts i = ofNumbers (taskAt ts i .period) (taskAt ts i .runtime) (suc i)
+ofTask ts i = ofNumbers (taskAt ts i .period) (taskAt ts i .runtime) (taskAt ts i .deadline) (suc i)
 
 -- 5: memory exceeds the supply; names the first task where the running sum does.
 unfoldable pub ofMemory : List Task → ℕ → ℕ → Answer
@@ -56,7 +58,7 @@ ofMemory ts supply i = choose (ltb supply (memorySum ts (suc i))) (refusal 5 (su
 unfoldable pub ofCycle : List Task → ℕ → Answer
 ofCycle ts i = choose (ltb 4096 (multiple ts (suc i))) (clash (suc i) (multiple ts i) (taskAt ts i .period)) none
 
--- Lists go 1, 2, then 3 and 4 task by task, then 5, then 6.
+-- Lists go 1, 2, then 3, 4 and 20 task by task, then 5, then 6.
 unfoldable pub found : TaskList → ℕ → Answer
 found l supply =
     ofCount (l .count)

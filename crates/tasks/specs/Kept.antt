@@ -2,7 +2,7 @@
 use mathlib.Core.Path.{_≡_, refl, sym, ap, subst, _∙_}
 use mathlib.Core.List.{List}
 use mathlib.Core.Bool.{not}
-use mathlib.Core.Logic.{⊎-elim, _↔_}
+use mathlib.Core.Logic.{_⊎_, inl, inr, ⊎-elim, _↔_}
 use Prim.Native.Nat.{ℕ, zero, suc, _≤_, _<_, _∣_}
 use native.Mathlib.Omega.{arith}
 use native.Mathlib.Nat.{one-dvd, dvd-trans, le-of-dvd, pos-of-ne-zero}
@@ -20,13 +20,15 @@ use Rattle.tasks.specs.List.{taskAt, planOf}
 use Rattle.tasks.specs.Euclid.{LeastCommonMultiple, lcm-is-least, lcm-pos}
 use Rattle.tasks.specs.Bounds.{boundsAnswer, multiple, memorySum, cycleOf, jobsOf, answer, boundsOf, ofCount, ofNumbers, ofTask, ofMemory, ofCycle, found}
 
--- ---- refusals 1 to 4
--- Period 1 to 4,096. Run-time 1 to the period.
+-- ---- refusals 1 to 4 and 20
+-- Period 1 to 4,096. Run-time 1 to the period. Deadline from the run-time to the period.
 pub record TaskFits (t : Task) : Type 0 where
   pub period-from : 1 ≤ t .period
   pub period-to : t .period ≤ 4096
   pub runtime-from : 1 ≤ t .runtime
   pub runtime-to : t .runtime ≤ t .period
+  pub deadline-from : t .runtime ≤ t .deadline
+  pub deadline-to : t .deadline ≤ t .period
 
 pub record AllFit (l : TaskList) : Type 0 where
   pub few : l .count ≤ 16
@@ -55,13 +57,20 @@ unfolding ofTask ofNumbers
 of-task-none ts i = (
   λ z.
       let a = passed-if (not (within 1 4096 p)) 2 (suc i) _ .0 z in
-      let b = passed-if (not (within 1 p r)) 3 (suc i) none .0 (a .1) in
+      let b = passed-if (not (within 1 p r)) 3 (suc i) _ .0 (a .1) in
+      let c = passed-if (not (within r p d)) 19 (suc i) none .0 (b .1) in
       let period = within-tells 1 4096 p (not-false _ (a .0)) in
       let runtime = within-tells 1 p r (not-false _ (b .0)) in
-      record { period-from = period .0; period-to = period .1; runtime-from = runtime .0; runtime-to = runtime .1 },
+      let deadline = within-tells r p d (not-false _ (c .0)) in
+      record { period-from = period .0; period-to = period .1; runtime-from = runtime .0; runtime-to = runtime .1; deadline-from = deadline .0; deadline-to = deadline .1 },
   λ f.
-      passed-if (not (within 1 4096 p)) 2 (suc i) _ .1
-      (ap not (is-within 1 4096 p (f .period-from) (f .period-to)), passed-if (not (within 1 p r)) 3 (suc i) none .1 (ap not (is-within 1 p r (f .runtime-from) (f .runtime-to)), none-number)),
+      passed-if (not (within 1 4096 p)) 2 (suc i) _ .1 (
+        ap not (is-within 1 4096 p (f .period-from) (f .period-to)),
+        passed-if (not (within 1 p r)) 3 (suc i) _ .1 (
+          ap not (is-within 1 p r (f .runtime-from) (f .runtime-to)),
+          passed-if (not (within r p d)) 19 (suc i) none .1 (ap not (is-within r p d (f .deadline-from) (f .deadline-to)), none-number),
+        ),
+      ),
 )
   where
     p : ℕ
@@ -69,6 +78,9 @@ of-task-none ts i = (
 
     r : ℕ
     r = taskAt ts i .runtime
+
+    d : ℕ
+    d = taskAt ts i .deadline
 
 -- Refusals 5 and 6 come from one test each.
 pub one-test-none : (a b : ℕ) (x : Answer) → (x .number ≡ 0 → ⊥) → (choose (ltb a b) x none .number ≡ 0) ↔ (b ≤ a)
@@ -172,13 +184,13 @@ module _ (l : TaskList) (supply : ℕ) (K : KeepsBounds l supply) where
   unfolding cycleOf
   cycle-least = multiple-least (l .tasks) (l .count) (λ i li. K .fits i li .period-from)
 
-  -- The plan of such a list is sound and rate-monotonic, and no period is longer than the cycle.
+  -- The plan of such a list is sound and goes by deadlines, and no period is longer than the cycle.
   pub plan-sound : Sound (planOf l)
   unfolding planOf
   plan-sound = record {
     period-pos = λ i li. K .fits i li .period-from;
-    due-pos = λ i li. K .fits i li .period-from;
-    due-within = λ i li. omega arith;
+    due-pos = λ i li. omega (arith, K .fits i li .runtime-from, K .fits i li .deadline-from);
+    due-within = λ i li. K .fits i li .deadline-to;
   }
 
   pub plan-monotonic : Monotonic (planOf l)
@@ -221,9 +233,9 @@ kept-tells l supply cycle jobs e =
     absurd (omega arith))
     (eq-or-ne (found l supply .number) 0)
 
--- ---- by which numbers each bound is refused: up to this one, with margin 0, and only 6 says why
+-- ---- by which numbers each bound is refused: up to this one or by 20, with margin 0, and only 6 says why
 pub record UpTo (most : ℕ) (f : Answer) : Type 0 where
-  pub to-most : f .number ≤ most
+  pub to-most : (f .number ≤ most) ⊎ (f .number ≡ 20)
   pub margin-0 : f .margin ≡ pos 0
   pub cycle-0 : f .cycle ≡ 0
   pub jobs-0 : f .jobs ≡ 0
@@ -231,7 +243,11 @@ pub record UpTo (most : ℕ) (f : Answer) : Type 0 where
 
 plain-to : (most n t : ℕ) → n ≤ most → UpTo most (refusal n t)
 unfolding refusal
-plain-to most n t l = record { to-most = l; margin-0 = refl; cycle-0 = refl; jobs-0 = refl; no-clash = λ _. (refl, refl) }
+plain-to most n t l = record { to-most = inl l; margin-0 = refl; cycle-0 = refl; jobs-0 = refl; no-clash = λ _. (refl, refl) }
+
+twenty-to : (most t : ℕ) → UpTo most (refusal 20 t)
+unfolding refusal
+twenty-to most t = record { to-most = inr refl; margin-0 = refl; cycle-0 = refl; jobs-0 = refl; no-clash = λ _. (refl, refl) }
 
 none-to : (most : ℕ) → UpTo most none
 unfolding none
@@ -239,10 +255,10 @@ none-to most = plain-to most 0 0 (omega arith)
 
 clash-to : (t r p : ℕ) → UpTo 6 (clash t r p)
 unfolding clash
-clash-to t r p = record { to-most = omega arith; margin-0 = refl; cycle-0 = refl; jobs-0 = refl; no-clash = λ not-so. absurd (not-so refl) }
+clash-to t r p = record { to-most = inl (omega arith); margin-0 = refl; cycle-0 = refl; jobs-0 = refl; no-clash = λ not-so. absurd (not-so refl) }
 
 up-to-6 : (most : ℕ) (f : Answer) → UpTo most f → most ≤ 6 → UpTo 6 f
-up-to-6 most f h l = record { to-most = omega (arith, h .to-most); margin-0 = h .margin-0; cycle-0 = h .cycle-0; jobs-0 = h .jobs-0; no-clash = h .no-clash }
+up-to-6 most f h l = record { to-most = ⊎-elim (λ (a : f .number ≤ most). inl (omega arith)) (λ (b : f .number ≡ 20). inr b) (h .to-most); margin-0 = h .margin-0; cycle-0 = h .cycle-0; jobs-0 = h .jobs-0; no-clash = h .no-clash }
 
 pub count-most : (n : ℕ) → UpTo 2 (ofCount n)
 unfolding ofCount
@@ -251,7 +267,12 @@ count-most n = choose-either (UpTo 2) _ _ _ (plain-to 2 1 0 (omega arith)) (choo
 module _ (ts : List Task) (n : ℕ) where
   pub tasks-most : UpTo 4 (firstFound (ofTask ts) n)
   unfolding ofTask ofNumbers
-  tasks-most = first-all (UpTo 4) (none-to 4) _ (λ i. choose-either (UpTo 4) _ _ _ (plain-to 4 3 (suc i) (omega arith)) (choose-either (UpTo 4) _ _ _ (plain-to 4 4 (suc i) (omega arith)) (none-to 4))) n
+  tasks-most =
+      first-all (UpTo 4) (none-to 4) _
+      (λ i.
+      choose-either (UpTo 4) _ _ _ (plain-to 4 3 (suc i) (omega arith))
+      (choose-either (UpTo 4) _ _ _ (plain-to 4 4 (suc i) (omega arith)) (choose-either (UpTo 4) _ _ _ (twenty-to 4 (suc i)) (none-to 4))))
+      n
 
   pub memory-most : (supply : ℕ) → UpTo 5 (firstFound (ofMemory ts supply) n)
   unfolding ofMemory
@@ -293,8 +314,11 @@ broken-tells l supply number task reached period e =
     record { some = nz; number-is = cc })
     (eq-or-ne (found l supply .number) 0)
 
-pub broken-number : (l : TaskList) (supply number task reached period : ℕ) → boundsOf l supply ≡ Broken number task reached period → number ≤ 6
-broken-number l supply number task reached period e = omega (arith, broken-tells l supply number task reached period e .number-is, found-most l supply .to-most)
+-- 7 is no bound's.
+pub broken-not-7 : (l : TaskList) (supply number task reached period : ℕ) → boundsOf l supply ≡ Broken number task reached period → number ≡ 7 → ⊥
+broken-not-7 l supply number task reached period e seven =
+    let is = broken-tells l supply number task reached period e .number-is in
+    ⊎-elim (λ (low : found l supply .number ≤ 6). absurd (omega (arith, is))) (λ (high : found l supply .number ≡ 20). absurd (omega (arith, is))) (found-most l supply .to-most)
 
 -- The list keeps all bounds, of memory with some supply.
 pub record Bounded (l : TaskList) : Type 0 where

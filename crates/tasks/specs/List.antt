@@ -1,4 +1,5 @@
--- A task list read as a plan: rate-monotonic, every deadline at the end of the period, one run-time a task.
+-- A task list read as a plan: the nearer deadline first, one run-time a task. Where each deadline is the end of the period that is
+-- rate-monotonic.
 use Prim.Native.Nat.{ℕ}
 use mathlib.Core.List.{List}
 use lib.ListN.{getD, length, replicate}
@@ -9,23 +10,23 @@ use Rattle.tasks.specs.declared.TaskList.{TaskList}
 
 -- what stands where there is no task
 unfoldable pub noTask : Task
-noTask = record { period = 0; runtime = 0; memory = 0 }
+noTask = record { period = 0; runtime = 0; memory = 0; deadline = 0 }
 
 -- the task at a place, counted from 0: task number i + 1
 unfoldable pub taskAt : List Task → ℕ → Task
 taskAt ts i = getD ts i noTask
 
--- The deadline of a task's jobs, counted from the release: the end of the period.
+-- The deadline of a task's jobs, counted from the release.
 abbrev pub dueOf : Task → ℕ
-dueOf t = t .period
+dueOf t = t .deadline
 
 -- The run-time of its job k: the same for all.
 abbrev pub runtimeOf : Task → ℕ → ℕ
 runtimeOf t k = t .runtime
 
--- What its job k is ranked by. Shorter period goes first; of equal periods, the earlier in the list.
+-- What its job k is ranked by. The nearer deadline goes first; of equal deadlines, the earlier in the list.
 abbrev pub keyOf : Task → ℕ → ℕ
-keyOf t k = t .period
+keyOf t k = t .deadline
 
 unfoldable pub planOf : TaskList → Plan
 planOf l =

@@ -1,4 +1,4 @@
-// The task list by value, its cycle by Euclid's rule, and what bounds it: refusals 1 to 6.
+// The task list by value, its cycle by Euclid's rule, and what bounds it: refusals 1 to 6 and 20.
 ghost use mathlib.Core.Path.{_≡_};
 ghost use Prim.Native.Nat.{ℕ, _+_, _≤_, _<_};
 ghost use Rattle.basis.specs.Choose.{within};
@@ -9,11 +9,12 @@ ghost use Rattle.tasks.specs.Bounds.{ofNumbers, ofTask, ofMemory, bounds
 ghost use Rattle.tasks.specs.Shapes.{asAnswer, Finds, multiplied};
 ghost use Rattle.tasks.specs.Kept.{AllFit};
 
-// Period and run-time in slices, sample memory in words.
+// Period, run-time and deadline in slices, the deadline counted from the release; sample memory in words.
 pub struct Task {
     pub period: u32,
     pub runtime: u32,
     pub memory: u32,
+    pub deadline: u32,
 }
 
 // Up to 16 tasks, numbered from 1 in list order. The count may say more, which is then refused.
@@ -26,14 +27,14 @@ pub struct TaskList {
 pub fn due_of(task: Task) -> u32
     ensures { λ r. ⌜ r ≡ dueOf task ⌝ }
 {
-    task.period
+    task.deadline
 }
 
 // What its jobs are ranked by, whichever job k: smaller first.
 pub fn key_of(task: Task) -> u32
     ensures { λ r. ⌜ ((k : ℕ) → r ≡ keyOf task k) ⌝ }
 {
-    task.period
+    task.deadline
 }
 
 // The run-time of its jobs, whichever job k.
@@ -87,14 +88,17 @@ fn is_within(low: u32, high: u32, x: u32) -> bool
     if x < low { false } else { x <= high }
 }
 
-fn of_task(period: u32, runtime: u32, task: usize) -> Finding
-    ensures { λ r. ⌜ asAnswer r ≡ ofNumbers period runtime task ⌝ }
+fn of_task(period: u32, runtime: u32, deadline: u32, task: usize) -> Finding
+    ensures { λ r. ⌜ asAnswer r ≡ ofNumbers period runtime deadline task ⌝ }
 {
     if !is_within(1, 4096, period) {
         return Finding { number: 3, task };
     }
     if !is_within(1, period, runtime) {
         return Finding { number: 4, task };
+    }
+    if !is_within(runtime, period, deadline) {
+        return Finding { number: 20, task };
     }
     Finding { number: 0, task: 0 }
 }
@@ -105,7 +109,7 @@ fn wide(x: u32) -> u64
     x as u64
 }
 
-// The first task that is refused by 3 or 4, or else the first at which the memory exceeds the supply. One function for
+// The first task that is refused by 3, 4 or 20, or else the first at which the memory exceeds the supply. One function for
 // both, as each that goes through the tasks copies them.
 fn of_tasks(list: TaskList, supply: u32) -> Finding
     requires { ⌜ list .count ≤ 16 ⌝ }
@@ -115,7 +119,7 @@ fn of_tasks(list: TaskList, supply: u32) -> Finding
     let mut i = 0;
     while i < list.count {
         let t = tasks[i];
-        let found = of_task(t.period, t.runtime, i + 1);
+        let found = of_task(t.period, t.runtime, t.deadline, i + 1);
         if found.number != 0 {
             return found;
         }
@@ -193,7 +197,7 @@ fn broken(found: Finding) -> Bounds
     }
 }
 
-// Refusals 1 to 6, or the cycle and the job count.
+// Refusals 1 to 6 and 20, or the cycle and the job count.
 pub fn check_bounds(list: TaskList, supply: u32) -> Bounds
     ensures { λ r. ⌜ r ≡ boundsOf list supply ⌝ }
 {

@@ -17,6 +17,10 @@ runtimeSlices micros slice tick = choose (leb slice tick) Refused (Count (ceil m
 unfoldable pub periodSlices : ℕ → ℕ → Slices
 periodSlices micros slice = choose (eqb slice 0 || not (eqb (micros % slice) 0)) Refused (Count (micros / slice))
 
+-- A deadline by division by the slice length, rounded down: it is kept, so it does not come later than asked. Refused: slice length 0.
+unfoldable pub deadlineSlices : ℕ → ℕ → Slices
+deadlineSlices micros slice = choose (eqb slice 0) Refused (Count (micros / slice))
+
 -- The slices. A refused conversion answers 0.
 unfoldable pub slicesOf : Slices → ℕ
 slicesOf (Count n) = n

@@ -3,13 +3,13 @@ use mathlib.Core.Path.{_≡_, refl}
 use mathlib.Core.Logic.{_⊎_, inl, inr, ⊎-elim, _↔_}
 use Prim.Native.Nat.{ℕ, zero, suc, _+_, _-_, _*_, _/_, _%_, _≤_, _<_}
 use native.Mathlib.Omega.{arith}
-use native.Mathlib.Nat.{div-add-mod', div-eq-of-eq-mul-left, mul-mod-left, mul-sub, mul-le-mul-left}
+use native.Mathlib.Nat.{div-add-mod', div-eq-of-eq-mul-left, mul-mod-left, mul-sub, mul-le-mul-left, div-mul-le-self, le-div-iff-mul-le}
 use lib.Dec.{eqb}
 use borrow.Author.Tests.{eq-eqb, ne-eqb, lt-leb}
 use Rattle.basis.specs.Choose.{choose, eq-or-ne}
 use Rattle.basis.specs.Slices.{ceil, ceil-covers, ceil-least}
 use Rattle.units.specs.declared.Slices.the-variants.{Count, Refused}
-use Rattle.units.specs.Conversion.{runtimeSlices, periodSlices, slicesOf}
+use Rattle.units.specs.Conversion.{runtimeSlices, periodSlices, deadlineSlices, slicesOf}
 
 -- n slices hold a run-time if it has room in them beside a tick in each,
 unfoldable pub Holds : ℕ → ℕ → ℕ → ℕ → Type 0
@@ -68,7 +68,20 @@ period-refused micros slice (inr none) =
     rw (ne-eqb slice 0 ne, ne-eqb (micros % slice) 0 (λ z. none (micros / slice) (omega (arith, div-add-mod' micros slice)))))
     (eq-or-ne slice 0)
 
--- Worked by hand, to the ends of 32 bits: run-times by slice length and tick cost, periods by slice length.
+-- A deadline comes at the end of the last slice that ends no later than asked.
+pub record Latest (micros slice n : ℕ) : Type 0 where
+  pub in-time : n * slice ≤ micros
+  pub latest : (k : ℕ) → k * slice ≤ micros → k ≤ n
+
+pub deadline-latest : (micros slice : ℕ) → 0 < slice → Latest micros slice (slicesOf (deadlineSlices micros slice))
+unfolding deadlineSlices slicesOf choose
+deadline-latest micros slice pos =
+    rw (ne-eqb slice 0 (λ e. omega arith)) (record {
+      in-time = div-mul-le-self micros slice;
+      latest = λ k h. le-div-iff-mul-le pos .1 h;
+    })
+
+-- Worked by hand, to the ends of 32 bits: run-times by slice length and tick cost, periods and deadlines by slice length.
 pub worked :
     (runtimeSlices 1000 500 20 ≡ Count 3)
     × (runtimeSlices 1000 500 0 ≡ Count 2)
@@ -92,5 +105,10 @@ pub worked :
     × (periodSlices 4294967295 1 ≡ Count 4294967295)
     × (periodSlices 4294967295 2 ≡ Refused)
     × (periodSlices 4294967295 4294967295 ≡ Count 1)
-unfolding runtimeSlices periodSlices choose ceil
-worked = (refl, refl, refl, refl, refl, refl, refl, refl, refl, refl, refl, refl, refl, refl, refl, refl, refl, refl, refl, refl, refl, refl)
+    × (deadlineSlices 1000 500 ≡ Count 2)
+    × (deadlineSlices 999 500 ≡ Count 1)
+    × (deadlineSlices 499 500 ≡ Count 0)
+    × (deadlineSlices 1000 0 ≡ Refused)
+    × (deadlineSlices 4294967295 2 ≡ Count 2147483647)
+unfolding runtimeSlices periodSlices deadlineSlices choose ceil
+worked = (refl, refl, refl, refl, refl, refl, refl, refl, refl, refl, refl, refl, refl, refl, refl, refl, refl, refl, refl, refl, refl, refl, refl, refl, refl, refl, refl)

@@ -1,8 +1,9 @@
-// Microseconds to slices: a run-time by what the tick leaves of a slice, rounded up; a period by exact division.
+// Microseconds to slices: a run-time by what the tick leaves of a slice, rounded up; a period by exact division; a deadline rounded
+// down.
 ghost use mathlib.Core.Path.{_≡_};
 ghost use Prim.Native.Nat.{_<_, _-_};
 ghost use Rattle.basis.specs.Slices.{ceil};
-ghost use Rattle.units.specs.Conversion.{runtimeSlices, periodSlices};
+ghost use Rattle.units.specs.Conversion.{runtimeSlices, periodSlices, deadlineSlices};
 
 // A conversion's answer: so many slices, or refusal 17.
 pub enum Slices {
@@ -46,5 +47,16 @@ pub fn period_slices(micros: u32, slice: u32) -> Slices
         Slices::Count(micros / slice)
     } else {
         Slices::Refused
+    }
+}
+
+// A deadline is kept, so it does not come later than asked.
+pub fn deadline_slices(micros: u32, slice: u32) -> Slices
+    ensures { λ r. ⌜ r ≡ deadlineSlices micros slice ⌝ }
+{
+    if slice == 0 {
+        Slices::Refused
+    } else {
+        Slices::Count(micros / slice)
     }
 }

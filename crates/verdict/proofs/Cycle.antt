@@ -281,7 +281,7 @@ module _ (n cycle : ℕ) (order periods dues runtimes : List ℕ) (S : Shown n c
     module _ (none : late .task ≡ 0) where
       due-in-cycle : (i : ℕ) → i < P .count → P .due i ≤ cycle
       unfolding planOf
-      due-in-cycle i li = omega (arith, S .cycle-is, period-within-cycle l (bounds .supply) (bounds .keeps) i li)
+      due-in-cycle i li = omega (arith, S .cycle-is, sound .due-within i li, period-within-cycle l (bounds .supply) (bounds .keeps) i li)
 
       pub ends-by-dues : (k : ℕ) → k < n → at ends k ≤ at dues k
       ends-by-dues k small = let lk : k < P .count = omega (arith, count-is) in omega (arith, L .end-is none k lk, end-within P (at order k) cycle, W .due-is k lk)

@@ -13,7 +13,7 @@ use Rattle.tasks.specs.declared.Bounds.{Bounds}
 use Rattle.tasks.specs.declared.Bounds.the-variants.{Kept, Broken}
 use Rattle.tasks.specs.List.{planOf}
 use Rattle.tasks.specs.Bounds.{boundsOf, boundsAnswer, found, cycleOf, jobsOf}
-use Rattle.tasks.specs.Kept.{KeepsBounds, bounds-kept, bounds-broken, bounds-found, kept-tells, broken-tells, broken-number, plan-monotonic}
+use Rattle.tasks.specs.Kept.{KeepsBounds, bounds-kept, bounds-broken, bounds-found, kept-tells, broken-tells, broken-not-7, plan-monotonic}
 use Rattle.verdict.specs.declared.Verdict.{Verdict}
 use Rattle.verdict.specs.declared.Verdict.the-variants.{Accepted, Refused}
 use Rattle.verdict.specs.Lateness.{lateness}
@@ -21,14 +21,14 @@ use Rattle.verdict.specs.Margin.{margin, tightest}
 use Rattle.verdict.specs.Verdict.{judged, verdictFrom, verdictOf, verdictAnswer}
 use Rattle.verdict.specs.Deadlines.{EarliestMissed, nothing-late, late-tells}
 
--- A bound is broken: refusal 1 to 6, with margin 0, and 6 with the clash.
+-- A bound is broken: refusal 1 to 6 or 20, with margin 0, and 6 with the clash.
 pub record ByBounds (l : TaskList) (supply : ℕ) (v : Verdict) : Type 0 where
   pub number : ℕ
   pub task : ℕ
   pub reached : ℕ
   pub period : ℕ
   pub broken : boundsOf l supply ≡ Broken number task reached period
-  pub to-6 : number ≤ 6
+  pub not-7 : number ≡ 7 → ⊥
   pub is : v ≡ Refused number task (pos 0) reached period
 
 -- All bounds are kept, and a deadline of the cycle is missed, the earliest by the task named: refusal 7, with what its job lacked
@@ -55,7 +55,7 @@ module _ (l : TaskList) (supply : ℕ) where
     reached = reached;
     period = period;
     broken = e;
-    to-6 = broken-number l supply number task reached period e;
+    not-7 = broken-not-7 l supply number task reached period e;
     is = ap (verdictFrom l) e;
   }
 
@@ -122,7 +122,7 @@ module _ (l : TaskList) (supply : ℕ) where
   unfolding verdictAnswer
   below-zero =
       ⊎-elim
-      (λ (h : ByBounds l supply (verdictOf l supply)). rw (h .is) (λ z. absurd (omega (arith, h .to-6)), λ n. absurd (pos-ne-negsuc _ _ (n .1))))
+      (λ (h : ByBounds l supply (verdictOf l supply)). rw (h .is) (λ z. absurd (h .not-7 z), λ n. absurd (pos-ne-negsuc _ _ (n .1))))
       (⊎-elim
       (λ (h : ForLateness l supply (verdictOf l supply)). rw (h .is) (λ z. (h .short, refl), λ n. refl))
       (λ (h : OnTimeAll l supply (verdictOf l supply)). rw (h .is) (λ z. absurd (omega arith), λ n. absurd (pos-ne-negsuc _ _ (n .1)))))

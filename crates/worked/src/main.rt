@@ -64,6 +64,7 @@ fn list_of(first: Task, second: Task, third: Task, count: usize) -> TaskList {
         period: 0,
         runtime: 0,
         memory: 0,
+        deadline: 0,
     }; 16];
     tasks[0] = first;
     tasks[1] = second;
@@ -76,6 +77,7 @@ fn task(period: u32, runtime: u32) -> Task {
         period,
         runtime,
         memory: 0,
+        deadline: period,
     }
 }
 
@@ -159,7 +161,7 @@ fn lists_of_one(tally: Tally) -> Tally {
 
 // 1,001 microseconds are no whole number of slices of 500: the conversion is refused, and a period of 0 after it.
 fn part_of_a_slice(tally: Tally) -> Tally {
-    let part = bench::task_in(1001, 500, 0, 500, 0);
+    let part = bench::task_in(1001, 500, 0, 1001, 500, 0);
     let judged = take_apart(verdict::judge(list_of(part, task(0, 0), task(0, 0), 1), 0));
     let t = compare(
         tally,
@@ -240,7 +242,7 @@ fn runtimes(tally: Tally) -> Tally {
 
 // It takes nothing of a period. So a job that wants all of its 2 slices takes 3, and its list is refused.
 fn period_and_runtime(tally: Tally) -> Tally {
-    let full = bench::task_in(1000, 1000, 0, 500, 20);
+    let full = bench::task_in(1000, 1000, 0, 1000, 500, 20);
     let judged = take_apart(verdict::judge(list_of(full, task(0, 0), task(0, 0), 1), 0));
     let t = compare(
         tally,

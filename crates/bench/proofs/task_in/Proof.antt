@@ -17,14 +17,22 @@ runtime-slices-requires c κs = search needs
 slices-or-zero-requires-2 : tie.Need-slices-or-zero-requires-2
 slices-or-zero-requires-2 c κs = search needs
 
+deadline-slices-requires : tie.Need-deadline-slices-requires
+deadline-slices-requires c κs = search needs
+
+slices-or-zero-requires-3 : tie.Need-slices-or-zero-requires-3
+slices-or-zero-requires-3 c κs = search needs
+
 returns : tie.Need-returns
 unfolding taskIn
 returns c =
     rw (
-      c .slices-or-zero2 .ensures,
-      c .before .runtime-slices .ensures,
-      c .before .before .slices-or-zero .ensures,
-      c .before .before .before .period-slices .ensures,
+      c .slices-or-zero3 .ensures,
+      c .before .deadline-slices .ensures,
+      c .before .before .slices-or-zero2 .ensures,
+      c .before .before .before .runtime-slices .ensures,
+      c .before .before .before .before .slices-or-zero .ensures,
+      c .before .before .before .before .before .period-slices .ensures,
     ) refl
 
 pub task-in-spec : {M : Type 1} → statement M
@@ -35,4 +43,6 @@ task-in-spec =
     slices-or-zero-requires
     runtime-slices-requires
     slices-or-zero-requires-2
+    deadline-slices-requires
+    slices-or-zero-requires-3
     returns)

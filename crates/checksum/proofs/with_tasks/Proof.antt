@@ -9,10 +9,10 @@ use Rattle.checksum.proofs.with_tasks.Statement.{statement}
 use Rattle.checksum.proofs.with_tasks.Tie as tie
 
 abbrev Inv-loop : tie.InvT-loop
-Inv-loop h periods runtimes sum₀ i₀ sum i = (i ≤ 16) × (sum ≡ overTasks h periods runtimes i)
+Inv-loop h periods deadlines runtimes sum₀ i₀ sum i = (i ≤ 16) × (sum ≡ overTasks h periods deadlines runtimes i)
 
 abbrev μ-loop : tie.MeasureT-loop
-μ-loop h periods runtimes sum₀ i₀ sum i = 16 - i
+μ-loop h periods deadlines runtimes sum₀ i₀ sum i = 16 - i
 
 loop-holds : tie.Need-loop-holds Inv-loop μ-loop
 unfolding overTasks
@@ -29,5 +29,6 @@ pub with-tasks-spec : {M : Type 1} → statement M
 with-tasks-spec =
     tie.close
     (tie.spec Inv-loop μ-loop loop-holds (λ c. search needs) (λ c. search needs) (λ c. search needs)
-    (λ c. search needs) (λ c. search needs) (λ c. search needs) (λ c. search needs) (λ c. search needs) loop-again
+    (λ c. search needs) (λ c. search needs) (λ c. search needs) (λ c. search needs) (λ c. search needs)
+    (λ c. search needs) (λ c. search needs) (λ c. search needs) loop-again
     returns)

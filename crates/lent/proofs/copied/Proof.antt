@@ -125,14 +125,14 @@ module _ {M : Type 1} {𝓤 : URA M} {H : Heap 𝓤} {A : Atoms 𝓤} (W : Given
   unfolding afterTurn
   more i l =
       let within : i < n = omega (arith, held .records) in
-      let bytes : i * 12 < 2 ^ 64 = omega (arith, held .records, room .1) in
+      let bytes : i * 16 < 2 ^ 64 = omega (arith, held .records, room .1) in
       let fits : i < 2 ^ 64 = omega (arith, held .places) in
       let next : i + 1 < 2 ^ 64 = omega (arith, held .places) in
       assigns ! (bin ! (of-local ! 13 refl) (of-local ! 15 refl) tt) (from ! (stop !)) (init ! 9 refl (tt, tt)) $
       rewrite ! 9 (λ (t : Bool). ‵ (fat fullShare tyBool l₇ 0 (vbool t))) (lt-ltb i end l) refl $ stays ! (of-local ! 9 refl) $
       assigns ! (bin ! (of-local ! 13 refl) (lit ! tt) (record { fits = bytes })) (from ! (stop !)) (init ! 7 refl (tt, record { fits = bytes })) $
       assigns ! (bin ! (load ! (from ! (fld ! refl (stop !))) (look-in ! 21 (sub ! 0 refl (whole !)))) (of-local ! 7 refl) tt) (from ! (stop !)) (init ! 5 refl (tt, tt)) $
-      rewrite ! 5 (λ (p : ℕ). ‵ (fat fullShare tyPtr l₉ 0 (vptr (x .ptr .0) p))) (sym (place-is 12 (x .ptr .1) i)) refl $
+      rewrite ! 5 (λ (p : ℕ). ‵ (fat fullShare tyPtr l₉ 0 (vptr (x .ptr .0) p))) (sym (place-is 16 (x .ptr .1) i)) refl $
       looks-slice ! tt T.the-row (Is T.the-row) (shows 𝓤 H A T.the-row) (LL.vals T.the-type T′.the-laws) (LL.tells T.the-type T′.the-laws) (LL.copy T.the-type T′.the-copy 𝓤 H A W) ts (x .ptr .0) (x .ptr .1) (λ q′.
       elem-out ! T.the-row (Is T.the-row) (shows 𝓤 H A T.the-row) (LL.vals T.the-type T′.the-laws) (LL.tells T.the-type T′.the-laws) q′ ts i noTask (x .ptr .0) (x .ptr .1) within (λ is.
       -- [tasks[i]; what it owns; the others; what shuts; the fractured borrow; what the list owns; _10; …]

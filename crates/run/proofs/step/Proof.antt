@@ -21,8 +21,8 @@ same-length c = search needs
 returns : tie.Need-returns
 returns c = gives-back _ _ _ _ _ _ _ _ _ (c .before .before .before .before .step-in-place .ensures) _ (c .enum-told2 .given .1)
 
-add-t22 : tie.Need-add-t22
-add-t22 c = omega (arith, position-fits _ _ _ _ _ _ _ _ _ (c .before .before .before .before .before .step-in-place .ensures) (c .before .enum-told .given .1))
+add-t25 : tie.Need-add-t25
+add-t25 c = omega (arith, position-fits _ _ _ _ _ _ _ _ _ (c .before .before .before .before .before .step-in-place .ensures) (c .before .enum-told .given .1))
 
 same-length-2 : tie.Need-same-length-2
 same-length-2 c = search needs
@@ -39,6 +39,6 @@ step-spec =
     enum-told-2
     same-length
     returns
-    add-t22
+    add-t25
     same-length-2
     returns-2)

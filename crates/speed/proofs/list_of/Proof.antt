@@ -1,4 +1,4 @@
--- `list_of` is safe and ends: a task that is copied has its three numbers.
+-- `list_of` is safe and ends: a task that is copied has its four numbers.
 use Prim.Native.Nat.{_*_, _-_, _≤_}
 use lib.ListN.{length}
 use borrow.Author.Needs.{needs}
@@ -6,7 +6,7 @@ use Rattle.speed.proofs.list_of.Statement.{statement}
 use Rattle.speed.proofs.list_of.Tie as tie
 
 abbrev Inv-loop : tie.InvT-loop
-Inv-loop numbers count list₀ most i₀ list i = (most ≤ 16) × (most * 3 ≤ length numbers)
+Inv-loop numbers count list₀ most i₀ list i = (most ≤ 16) × (most * 4 ≤ length numbers)
 
 abbrev μ-loop : tie.MeasureT-loop
 μ-loop numbers count list₀ most i₀ list i = most - i

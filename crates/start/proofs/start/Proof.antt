@@ -14,12 +14,12 @@ returns-2 c =
     short-begins _ _ _ _ _ _ (c .before .before .before .before .before .judge .ensures) _ _ _ _ (c .before .before .before .verdict2 .given .1) _ (c .before .if1 .taken) (c .no-run2 .ensures)
 
 read-requires : tie.Need-read-requires
-read-requires c κs = few-tasks _ _ _ (c .before .before .before .before .before .before .before .before .before .before .judge .ensures) _ _ _ _ (c .before .before .before .before .before .before .before .before .verdict2 .given .1)
+read-requires c κs = few-tasks _ _ _ (c .before .before .before .before .before .before .before .before .before .before .before .judge .ensures) _ _ _ _ (c .before .before .before .before .before .before .before .before .before .verdict2 .given .1)
 
 returns-3 : tie.Need-returns-3
 unfolding startState
 returns-3 c =
-    accepted-begins _ _ _ _ _ _ (c .before .before .before .before .before .before .before .before .before .before .before .before .judge .ensures) _ _ _ _ (c .before .before .before .before .before .before .before .before .before .before .verdict2 .given .1) _ _ (c .before .before .before .before .before .before .before .before .if1 .left) (rw (c .before .read .ensures .0, c .before .read .ensures .1, c .mode-of .ensures)) (c .before .before .before .before .before .before .clear .ensures)
+    accepted-begins _ _ _ _ _ _ (c .before .before .before .before .before .before .before .before .before .before .before .before .before .judge .ensures) _ _ _ _ (c .before .before .before .before .before .before .before .before .before .before .before .verdict2 .given .1) _ _ (c .before .before .before .before .before .before .before .before .before .if1 .left) (rw (c .before .read .ensures .0, c .before .read .ensures .1, c .before .read .ensures .2, c .mode-of .ensures)) (c .before .before .before .before .before .before .before .clear .ensures)
 
 pub start-spec : {M : Type 1} → statement M
 start-spec =

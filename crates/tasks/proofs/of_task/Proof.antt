@@ -19,11 +19,19 @@ returns-2 c =
     (yes-so _ _ _ _ (sym (ap not (c .before .is-within2 .ensures)) ∙ c .if2 .taken) refl)
 
 returns-3 : tie.Need-returns-3
-unfolding ofNumbers refusal none
+unfolding ofNumbers refusal
 returns-3 c =
-    no-so _ _ _ _ (sym (ap not (c .before .before .before .is-within .ensures)) ∙ c .before .before .if1 .left)
-    (no-so _ _ _ _ (sym (ap not (c .before .is-within2 .ensures)) ∙ c .if2 .left) refl)
+    no-so _ _ _ _ (sym (ap not (c .before .before .before .before .before .is-within .ensures)) ∙ c .before .before .before .before .if1 .left)
+    (no-so _ _ _ _ (sym (ap not (c .before .before .before .is-within2 .ensures)) ∙ c .before .before .if2 .left)
+    (yes-so _ _ _ _ (sym (ap not (c .before .is-within3 .ensures)) ∙ c .if3 .taken) refl))
+
+returns-4 : tie.Need-returns-4
+unfolding ofNumbers refusal none
+returns-4 c =
+    no-so _ _ _ _ (sym (ap not (c .before .before .before .before .before .is-within .ensures)) ∙ c .before .before .before .before .if1 .left)
+    (no-so _ _ _ _ (sym (ap not (c .before .before .before .is-within2 .ensures)) ∙ c .before .before .if2 .left)
+    (no-so _ _ _ _ (sym (ap not (c .before .is-within3 .ensures)) ∙ c .if3 .left) refl))
 
 pub of-task-spec : {M : Type 1} → statement M
 of-task-spec =
-    tie.close (tie.spec (λ c κs. search needs) returns (λ c κs. search needs) returns-2 returns-3)
+    tie.close (tie.spec (λ c κs. search needs) returns (λ c κs. search needs) returns-2 (λ c κs. search needs) returns-3 returns-4)

@@ -13,10 +13,10 @@ use Rattle.run.proofs.ask.first_open.Statement.{statement}
 use Rattle.run.proofs.ask.first_open.Tie as tie
 
 abbrev Inv-loop : tie.InvT-loop
-Inv-loop periods ended count best₀ i₀ best i = (i ≤ count) × (best ≤ i) × (best ≡ first (at periods) (λ k. choose (getD ended k false) 0 1) i)
+Inv-loop deadlines ended count best₀ i₀ best i = (i ≤ count) × (best ≤ i) × (best ≡ first (at deadlines) (λ k. choose (getD ended k false) 0 1) i)
 
 abbrev μ-loop : tie.MeasureT-loop
-μ-loop periods ended count best₀ i₀ best i = count - i
+μ-loop deadlines ended count best₀ i₀ best i = count - i
 
 loop-holds : tie.Need-loop-holds Inv-loop μ-loop
 unfolding first
@@ -38,7 +38,7 @@ loop-again : tie.Need-loop-again Inv-loop μ-loop
 loop-again c =
     let place : c .before .before .before .loop .i + 1 - 1 ≡ c .before .before .before .loop .i = omega arith in
     let told = rw place at (c .better .ensures) in
-    (omega arith, omega (arith, told, scanned-to (at (c .before .before .before .before .args .periods .now)) (getD (c .before .before .before .before .args .ended .now) (c .before .before .before .loop .i) false) (c .before .before .before .loop .i) (c .before .before .before .loop .best) (c .before .before .before .loop .inv .1)), one-more-scanned _ _ _ _ _ _ refl (c .before .before .before .loop .inv .2) told)
+    (omega arith, omega (arith, told, scanned-to (at (c .before .before .before .before .args .deadlines .now)) (getD (c .before .before .before .before .args .ended .now) (c .before .before .before .loop .i) false) (c .before .before .before .loop .i) (c .before .before .before .loop .best) (c .before .before .before .loop .inv .1)), one-more-scanned _ _ _ _ _ _ refl (c .before .before .before .loop .inv .2) told)
 
 returns : tie.Need-returns Inv-loop μ-loop
 unfolding openFirst
