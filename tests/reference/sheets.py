@@ -45,7 +45,7 @@ def sheet(name):
     answer = model.verdict(tasks, SUPPLY)
     assert answer.refusal == 0
     # memory decides nothing but refusal 5, and the model's drive has no supply
-    log, ends = model.drive([task._replace(memory=0) for task in tasks], model.NONE_NAMED, needs)
+    log, ends = model.drive([task._replace(memory=0) for task in tasks], model.TABLE, needs)
     lines = [
         "%s: 5 tasks in slices of %d microseconds, tick cost %d" % (name, SLICE, TICK),
         "cycle %d, jobs %d; tightest task %d %s, margin %d"

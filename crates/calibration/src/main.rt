@@ -1,4 +1,4 @@
-// The calibration list: one cycle with no mode named, each job with a need of its own.
+// The calibration list: one cycle by the table, each job with a need of its own.
 use bench::SLICE;
 use bench::SUPPLY;
 use bench::TICK;
@@ -66,7 +66,7 @@ fn main() {
     let driven = bench::drive(
         tasks,
         SUPPLY,
-        Asked::Unnamed,
+        Asked::Table,
         0,
         &needs,
         &mut table,

@@ -55,7 +55,7 @@ pub record NoRun (s : State) : Type 0 where
   pub none-ended : (i : ℕ) → jobOf s i ≡ fresh
   pub not-sound : SoundState s → ⊥
 
--- What an accepted start gives: the list's tasks, every job fresh, slice 0, the mode asked for (none named: by the table) and the
+-- What an accepted start gives: the list's tasks, every job fresh, slice 0, the mode asked for (none named: filling) and the
 -- clock reading; places beyond the task count are 0, with no job ended. The first job-count bytes of the log are 0, the others stay.
 pub record BegunRun (l : TaskList) (asked : Asked) (clock : ℕ) (log log′ : List ℕ) (s : State) : Type 0 where
   pub count-is : s .count ≡ l .count
@@ -64,7 +64,7 @@ pub record BegunRun (l : TaskList) (asked : Asked) (clock : ℕ) (log log′ : L
   pub clock-is : s .clock ≡ clock
   pub filling-asked : asked ≡ mode-asked.Filling → s .mode ≡ mode.Filling
   pub table-asked : asked ≡ mode-asked.Table → s .mode ≡ mode.Table
-  pub none-named : asked ≡ mode-asked.Unnamed → s .mode ≡ mode.Table
+  pub none-named : asked ≡ mode-asked.Unnamed → s .mode ≡ mode.Filling
   pub periods-are : (i : ℕ) → i < l .count → periodOf s i ≡ taskAt (l .tasks) i .period
   pub deadlines-are : (i : ℕ) → i < l .count → dueOf s i ≡ taskAt (l .tasks) i .deadline
   pub runtimes-are : (i k : ℕ) → i < l .count → runtimeOf s i k ≡ taskAt (l .tasks) i .runtime

@@ -26,6 +26,8 @@ pub mod RunOnA
 pub mod Wrong
 pub mod Viewer
 pub mod ViewerHolds
+pub mod Unnamed
+pub mod UnnamedHolds
 pub mod Deadlines
 pub mod DeadlinesHold
 pub mod Determined

@@ -24,11 +24,11 @@ use Rattle.run.specs.declared.State.{State}
 use Rattle.start.specs.declared.Started.{Started}
 
 -- ---- the state
--- A start with no mode named runs by the table.
+-- A start with no mode named fills freed slices.
 unfoldable pub modeOf : Asked → Mode
 modeOf asked.Table = mode.Table
 modeOf asked.Filling = mode.Filling
-modeOf asked.Unnamed = mode.Table
+modeOf asked.Unnamed = mode.Filling
 
 -- Every job fresh, at slice 0, with no job ended. Task places beyond the task count are 0.
 unfoldable pub startState : TaskList → ℕ → Mode → ℕ → State

@@ -36,14 +36,14 @@ pub struct Started {
     pub state: State,
 }
 
-// A start with no mode named runs by the table.
+// A start with no mode named fills freed slices.
 fn mode_of(asked: Asked) -> Mode
     ensures { λ r. ⌜ r ≡ modeOf asked ⌝ }
 {
     match asked {
         Asked::Table => Mode::Table,
         Asked::Filling => Mode::Filling,
-        Asked::Unnamed => Mode::Table,
+        Asked::Unnamed => Mode::Filling,
     }
 }
 
