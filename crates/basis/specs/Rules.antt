@@ -54,6 +54,7 @@ pub record GoesBy (rules : Rules) (a : Answer) : Type 0 where
 -- ---- laws
 pub refused_not_0 : (rs : Rules) (a : Answer) → Refused rs a → a.number ≡ 0 → ⊥
 unfolding Refused
+refused_not_0 no_more a h z = elim h [ ]
 refused_not_0 (r then rs) a (inl b) z = b.not_0 z
 refused_not_0 (r then rs) a (inr h) z = refused_not_0 rs a h.1 z
 
@@ -63,6 +64,7 @@ Kept rs = (b : Answer) → Refused rs b → ⊥
 
 earlier : (rs qs : Rules) (a : Answer) → Refused rs a → Refused (rs and_then qs) a
 unfolding Refused ◌and_then◌
+earlier no_more qs a h = elim h [ ]
 earlier (r then rs) qs a (inl b) = inl b
 earlier (r then rs) qs a (inr h) = inr (h.0, earlier rs qs a h.1)
 
