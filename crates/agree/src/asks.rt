@@ -5,7 +5,7 @@ use quick::Quick;
 use tasks::TaskList;
 
 // A refusal and the task that it names; both are 0 of an accepted list.
-#[derive(Drop)]
+#[derive(Clone, Copy)]
 struct Named {
     refusal: u32,
     task: usize,

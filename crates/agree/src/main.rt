@@ -1,5 +1,7 @@
 // Reads the file of reference cases from standard input (tests/reference/FORMAT.md) and compares every answer of the library
 // with it. It says that all agree, with the counts of the calls, or which record does not.
+#![tactic(auto)]
+
 mod taken; // numbers, lists and states from standard input
 mod parts; // bytes of a table or a log
 mod asks; // records of the quick question
@@ -18,7 +20,7 @@ use tasks::{Task, TaskList};
 
 // What is held between records. `open` while no record has disagreed and more are to come; `agreed` after an end record
 // that agrees. `counts` has the records so far, by tag.
-#[derive(Drop)]
+#[derive(Clone, Copy)]
 struct Hand {
     list: TaskList,
     supply: u32,

@@ -171,7 +171,7 @@ fn mode_of(byte: u8) -> Mode {
 }
 
 // A state, and whether its bytes are those of one.
-#[derive(Drop)]
+#[derive(Clone, Copy)]
 pub(crate) struct Given {
     pub state: State,
     pub formed: bool,
@@ -208,7 +208,7 @@ pub(crate) fn take_state() -> Given {
 }
 
 // The last word of the file, and whether the file ends right after it.
-#[derive(Drop)]
+#[derive(Clone, Copy)]
 pub(crate) struct Last {
     pub count: u32,
     pub formed: bool,

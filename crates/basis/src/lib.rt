@@ -1,1 +1,2 @@
 // Mathematics that every crate shares: choices by a test, sums, division of slices. No code.
+#![tactic(auto)]

@@ -1,4 +1,6 @@
 // The caller's side of a run: one cycle driven through the public functions, with a fixed need for each job.
+#![tactic(auto)]
+
 ghost use Rattle.std.specs.Prelude.{◌≡◌, ◌<◌, ◌≤◌, length, slice_index};
 ghost use Rattle.basis.specs.Bytes.{overwrite};
 ghost use Rattle.units.specs.Conversion.{slices_of};
@@ -23,7 +25,7 @@ pub const SUPPLY: u32 = 65536;
 
 // What a drive comes to: the answers of table building and of the start, and the last state. The run was whole if the last
 // position is the cycle.
-#[derive(Drop)]
+#[derive(Clone, Copy)]
 pub struct Driven {
     pub built: Verdict,
     pub begun: Begun,

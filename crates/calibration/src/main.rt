@@ -1,4 +1,6 @@
 // The calibration list: one cycle by the table, each job with a need of its own.
+#![tactic(auto)]
+
 use bench::{SLICE, SUPPLY, TICK};
 use start::Asked;
 use tasks::{Task, TaskList};

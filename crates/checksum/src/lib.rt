@@ -1,4 +1,6 @@
 // The checksum of the file of reference cases: FNV-1a of 32 bits, over a run of bytes and over a state.
+#![tactic(auto)]
+
 ghost use Rattle.std.specs.Prelude.{◌≡◌, length};
 ghost use Rattle.checksum.specs.Checksum.{mix, over_word, over_bytes, over_tasks, over_jobs, mode_byte, of_bytes, of_state};
 

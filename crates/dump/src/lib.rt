@@ -1,4 +1,6 @@
 // Writes a run as a Value Change Dump. Runs of any list; who may run is not looked at here.
+#![tactic(auto)]
+
 ghost use Rattle.std.specs.Prelude.{◌≡◌, ◌≤◌, min, length, take};
 ghost use Rattle.printing.specs.Shapes.{Put};
 ghost use Rattle.vcd.specs.Form.{time_line, value_line, vcd_text};

@@ -1,4 +1,6 @@
 // A run of a list that was seen, one entry a slice: its checks, and which needs lead the filling run of the list to it.
+#![tactic(auto)]
+
 mod candidate; // what the run gives each job, the only needs that can
 
 ghost use Rattle.std.specs.Prelude.{◌≡◌, length};
@@ -10,7 +12,7 @@ use verdict::Verdict;
 
 // What a call comes to: so many bytes, entries or needs are in the lent memory, or would be; no needs lead to the run; or
 // refused, with what the verdict says of the list, or with the place of 18 as the task.
-#[derive(Drop)]
+#[derive(Clone, Copy)]
 pub enum Viewed {
     Given(usize),
     No,

@@ -1,5 +1,7 @@
 // The explaining program: reads a task list and a Value Change Dump, whose file names are its arguments, and prints on standard
 // output which needs lead the filling run of the list to that run, or no, or the refusal.
+#![tactic(auto)]
+
 ghost use Rattle.std.specs.Prelude.{◌≡◌, ◌≤◌, length, replicate};
 ghost use Rattle.basis.specs.Bytes.{overwrite};
 ghost use Rattle.tasks.specs.Bounds.{cycle_of, jobs_of};

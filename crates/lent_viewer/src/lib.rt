@@ -1,5 +1,7 @@
 // What a logic viewer shows of a task list that is lent as a run of records: thin walks that copy the records into a list for
 // the covered core. What takes a list by value lends its records, so that covered code comes this way too.
+#![tactic(auto)]
+
 ghost use Rattle.std.specs.Prelude.{◌≤◌};
 ghost use Rattle.tasks.specs.List.{list_of};
 ghost use Rattle.lent.specs.Shapes.{filled};

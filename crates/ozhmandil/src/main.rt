@@ -1,5 +1,7 @@
 // The program: reads a task list from standard input and prints its table, or the refusal, on standard output; which two
 // periods clash is said on standard error.
+#![tactic(auto)]
+
 ghost use Rattle.std.specs.Prelude.{◌≤◌, length};
 ghost use Rattle.printing.specs.Written.{Written};
 ghost use Rattle.verdict.specs.Verdict.{verdict_answer};
@@ -58,7 +60,7 @@ fn note_list(verdict: Verdict, out: &mut [u8]) -> usize
 }
 
 // How long the answer is, and what is said beside it.
-#[derive(Drop)]
+#[derive(Clone, Copy)]
 struct Lengths {
     answer: usize,
     note: usize,

@@ -1,4 +1,6 @@
 // Records by RFC 4180 into a lent buffer: a refusal, why two periods clash, the quick answer, a table, and needs.
+#![tactic(auto)]
+
 ghost use Rattle.std.specs.Prelude.{[], ◌∷◌, length, get_or, take, ◌≡◌, ◌+◌, ◌^◌, ◌≤◌, ◌<◌, min};
 ghost use Rattle.basis.specs.Sum.{sum};
 ghost use Rattle.printing.specs.Text.{decimal, field, signed_decimal, refusal_record, refusal_text, pair_record, clash_text, quick_text, records_to, table_text, need_record, job_records, need_records, needs_text, no_text};

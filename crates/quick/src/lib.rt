@@ -1,4 +1,6 @@
 // The quick question, asked after every key: accepted, or the refusal's number and the task that it names.
+#![tactic(auto)]
+
 mod walk; // from point to point
 
 ghost use Rattle.std.specs.Prelude.{◌≡◌};
@@ -11,7 +13,7 @@ ghost use Rattle.quick.specs.Quick.{quick_of, tried};
 use tasks::{Bounds, TaskList};
 
 // The answer, without a margin.
-#[derive(Drop)]
+#[derive(Clone, Copy)]
 pub enum Quick {
     Accepted,
     Refused { number: u32, task: usize },

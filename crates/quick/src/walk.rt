@@ -6,14 +6,14 @@ ghost use Rattle.basis.specs.Slices.{ceil};
 ghost use Rattle.quick.specs.Shapes.{inverse_of, Level, ComesRound, Fits, Stands, Begins, Walked, Tried, FirstFails};
 
 // A point, and what the tasks of a level ask for by then.
-#[derive(Drop)]
+#[derive(Clone, Copy)]
 struct Walk {
     point: u32,
     asked: u32,
 }
 
 // How a task comes out: it passes at none of its points; or it does at one, and here the walk of the next task begins.
-#[derive(Drop)]
+#[derive(Clone, Copy)]
 enum Trial {
     Fails,
     Passes { walk: Walk },

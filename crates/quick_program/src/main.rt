@@ -1,4 +1,6 @@
 // The quick program: reads a task list from standard input and prints the quick answer on standard output, accepted being 0,0.
+#![tactic(auto)]
+
 ghost use Rattle.std.specs.Prelude.{◌≤◌};
 ghost use Rattle.output.specs.Quick.{QuickAnswers};
 

@@ -1,4 +1,6 @@
 // Reads a Value Change Dump back into who ran in each slice, or tells how far it is one.
+#![tactic(auto)]
+
 mod lines; // time lines and value lines
 
 ghost use Rattle.std.specs.Prelude.{◌≡◌, ◌≤◌, length, take, nat_le};
@@ -10,7 +12,7 @@ ghost use Rattle.readback.specs.Shapes.{Shared, Filled, ReadAside};
 
 // What a file is: the form of a run of so many slices; or of none, and so long is the longest beginning that it shares with one
 // that is.
-#[derive(Drop)]
+#[derive(Clone, Copy)]
 pub enum Found {
     Run(usize),
     Bad(usize),

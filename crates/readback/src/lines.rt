@@ -5,7 +5,7 @@ ghost use Rattle.vcd.specs.Form.{time_line, value_line};
 ghost use Rattle.readback.specs.Shapes.{byte_at, IsTime, IsOther, Top, ByteRead, DigitRead, Reading, Word, FourBits, FourDigits, LastBit, Whole};
 
 // So many bytes of a line stand there, and the number of their digits.
-#[derive(Drop)]
+#[derive(Clone, Copy)]
 pub(crate) struct Line {
     pub(crate) size: usize,
     pub(crate) value: u32,

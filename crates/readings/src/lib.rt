@@ -1,9 +1,11 @@
 // What a table entry, a refusal number and a log byte say, each read by the ranges of its numbers.
+#![tactic(auto)]
+
 ghost use Rattle.std.specs.Prelude.{◌≡◌};
 ghost use Rattle.readings.specs.Reading.{entry_of, refusal_of, logged_of};
 
 // An entry of a table: idle, a task by its number, or no entry at all, with the byte that stands there.
-#[derive(Drop)]
+#[derive(Clone, Copy)]
 pub enum Entry {
     Idle,
     Task(usize),
@@ -28,7 +30,7 @@ pub fn read_entry(byte: u8, count: usize) -> Entry
 }
 
 // Which part of the product refuses, with the number where it has several.
-#[derive(Drop)]
+#[derive(Clone, Copy)]
 pub enum Refusal {
     Bound(u32),
     Lateness,
@@ -58,7 +60,7 @@ pub fn read_refusal(number: u32) -> Refusal
 }
 
 // What the log says of a job. A byte left as cleared is no result, never a pass.
-#[derive(Drop)]
+#[derive(Clone, Copy)]
 pub enum Logged {
     NoResult,
     Done,

@@ -1,4 +1,6 @@
 // The program's input, from bytes to a task list: three or four decimal fields a line, lines parted by the pair CRLF.
+#![tactic(auto)]
+
 ghost use Rattle.std.specs.Prelude.{◌≡◌, [], ◌+◌, ◌≤◌, ◌<◌, length, get_or};
 ghost use Rattle.tasks.specs.List.{list_of};
 ghost use Rattle.records.specs.Grammar.{read_of, Reads};
@@ -8,14 +10,14 @@ ghost use Rattle.records.specs.LineEnds.{is_pair};
 use tasks::{Task, TaskList};
 
 // Every line in form, or the number of the first that is not, counted from 1.
-#[derive(Drop)]
+#[derive(Clone, Copy)]
 pub enum Form {
     Good,
     Bad(usize),
 }
 
 // The form, and the list beside it: of an input with a bad line, the list of no tasks.
-#[derive(Drop)]
+#[derive(Clone, Copy)]
 pub struct Parsed {
     pub form: Form,
     pub list: TaskList,
@@ -23,7 +25,7 @@ pub struct Parsed {
 
 // A line as far as it is read: how many fields are closed (4 once it is out of form), whether the open field has a digit and what
 // it is worth so far, and the first three fields.
-#[derive(Drop)]
+#[derive(Clone, Copy)]
 struct Line {
     closed: u32,
     digits: bool,

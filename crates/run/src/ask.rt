@@ -17,7 +17,7 @@ fn key_of(deadline: u32) -> u32
 }
 
 // What asking comes to: a refusal by its number, or 0 and then the job count and the entry of the task that runs.
-#[derive(Drop)]
+#[derive(Clone, Copy)]
 pub(crate) struct Asked {
     pub(crate) number: u32,
     pub(crate) jobs: u32,

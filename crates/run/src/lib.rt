@@ -1,4 +1,6 @@
 // A run of one cycle: its state, who runs, and the step that closes a slice.
+#![tactic(auto)]
+
 mod sound; // when a state is sound
 mod ask; // who runs, and refusals 9 to 11
 mod close; // refusals 12 to 14, and what a slice does
@@ -10,7 +12,7 @@ ghost use Rattle.run.specs.Who.{who_of};
 ghost use Rattle.run.specs.Step.{state_of, SteppedIn, Stepped};
 
 // How a run goes: by the table, or filling freed slices.
-#[derive(Drop)]
+#[derive(Clone, Copy)]
 pub enum Mode {
     Table,
     Filling,
@@ -18,7 +20,7 @@ pub enum Mode {
 
 // The state of a run: of each task its period, deadline and run-time, and of its current job the slices that it has used and whether it
 // has ended. Anyone may hand in any bits: it is checked, never trusted.
-#[derive(Drop)]
+#[derive(Clone, Copy)]
 pub struct State {
     pub periods: [u32; 16],
     pub deadlines: [u32; 16],
@@ -33,7 +35,7 @@ pub struct State {
 }
 
 // Who runs in the slice at the state's position: nobody, a task by its number, or a refusal.
-#[derive(Drop)]
+#[derive(Clone, Copy)]
 pub enum Runner {
     Idle,
     Task(usize),
@@ -41,13 +43,13 @@ pub enum Runner {
 }
 
 // What a step comes to.
-#[derive(Drop)]
+#[derive(Clone, Copy)]
 pub enum Closed {
     Accepted,
     Refused(u32),
 }
 
-#[derive(Drop)]
+#[derive(Clone, Copy)]
 pub struct Next {
     pub answer: Closed,
     pub state: State,

@@ -1,4 +1,6 @@
 // The sheet that a drive of the bench's five tasks prints: what list it is, how tight, and how each job ended.
+#![tactic(auto)]
+
 use bench::{Driven, SLICE, TICK};
 use libc::STDOUT_FILENO;
 use readings::{Logged, Refusal};
@@ -145,7 +147,7 @@ fn jobs_in(cycle: u32, period: u32) -> u32 {
 }
 
 // Whose job stands at a place of the log: its task, counted from 0, and its number.
-#[derive(Drop)]
+#[derive(Clone, Copy)]
 struct Place {
     task: usize,
     job: u32,

@@ -1,5 +1,7 @@
 // The border to C for the benchmark in bench/: the list comes as numbers, the answer goes as numbers. It is there to be measured
 // and promises nothing of its own; what is called behind it has the contracts.
+#![tactic(auto)]
+
 ghost use Rattle.std.specs.Prelude.{◌+◌, ◌<◌, ◌≤◌, length};
 
 use explain::Viewed;
@@ -11,7 +13,7 @@ use verdict::Verdict;
 
 // A verdict, a quick answer or a start in numbers: refusal number (0: accepted), margin, cycle, job count, clash and task.
 #[repr(C)]
-#[derive(Drop)]
+#[derive(Clone, Copy)]
 pub struct Answer {
     pub number: u32,
     pub margin: i32,
@@ -25,7 +27,7 @@ pub struct Answer {
 // What a call of the viewer's comes to, in numbers: refusal number (0: none), margin, clash, task or place of 18; how much was
 // given; and 1 for a no.
 #[repr(C)]
-#[derive(Drop)]
+#[derive(Clone, Copy)]
 pub struct Shown {
     pub number: u32,
     pub margin: i32,

@@ -1,4 +1,6 @@
 // The start of a run: the list is checked anew, the state is made, and the log is cleared to no result.
+#![tactic(auto)]
+
 ghost use Rattle.std.specs.Prelude.{◌≡◌, ◌≤◌, length};
 ghost use Rattle.basis.specs.Bytes.{overwrite};
 ghost use Rattle.tasks.specs.List.{task_at, due_of, runtime_of};
@@ -9,7 +11,7 @@ use tasks::{TaskList, due_of, runtime_of};
 use verdict::Verdict;
 
 // What a start is asked for: a mode, or none named.
-#[derive(Drop)]
+#[derive(Clone, Copy)]
 pub enum Asked {
     Table,
     Filling,
@@ -17,7 +19,7 @@ pub enum Asked {
 }
 
 // What a start comes to. A refusal names the task and carries margin and clash as a verdict does.
-#[derive(Drop)]
+#[derive(Clone, Copy)]
 pub enum Begun {
     Accepted,
     Refused {
@@ -29,7 +31,7 @@ pub enum Begun {
     },
 }
 
-#[derive(Drop)]
+#[derive(Clone, Copy)]
 pub struct Started {
     pub answer: Begun,
     pub state: State,

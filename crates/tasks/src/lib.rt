@@ -1,4 +1,6 @@
 // The task list by value, its cycle by Euclid's rule, and what bounds it: refusals 1 to 6 and 20.
+#![tactic(auto)]
+
 ghost use Rattle.std.specs.Prelude.{◌≡◌, ℕ, ◌+◌, ◌≤◌, ◌<◌};
 ghost use Rattle.basis.specs.Choose.{within};
 ghost use Rattle.basis.specs.Answer.{◌or_else◌, first_found};
@@ -9,7 +11,7 @@ ghost use Rattle.tasks.specs.Shapes.{as_answer, Finds, multiplied};
 ghost use Rattle.tasks.specs.Kept.{AllFit};
 
 // Period, run-time and deadline in slices, the deadline counted from the release; sample memory in words.
-#[derive(Drop)]
+#[derive(Clone, Copy)]
 pub struct Task {
     pub period: u32,
     pub runtime: u32,
@@ -18,7 +20,7 @@ pub struct Task {
 }
 
 // Up to 16 tasks, numbered from 1 in list order. The count may say more, which is then refused.
-#[derive(Drop)]
+#[derive(Clone, Copy)]
 pub struct TaskList {
     pub tasks: [Task; 16],
     pub count: usize,
@@ -46,7 +48,7 @@ pub fn runtime_of(task: Task) -> u32
 }
 
 // A refusal by its number, with the task that it names; number 0 where there is none.
-#[derive(Drop)]
+#[derive(Clone, Copy)]
 struct Finding {
     number: u32,
     task: usize,
@@ -54,7 +56,7 @@ struct Finding {
 
 // What the checks of a list's bounds come to. Refusal 6 says why: the multiple reached before the task, and the task's period,
 // which brings it above 4,096; of any other both are 0.
-#[derive(Drop)]
+#[derive(Clone, Copy)]
 pub enum Bounds {
     Kept {
         cycle: u32,
@@ -146,7 +148,7 @@ fn of_tasks(list: TaskList, supply: u32) -> Finding
 
 // What the periods come to: their least common multiple with its job count; or it was given up at a task, with the multiple
 // reached before it and the task's period, which brings it above 4,096.
-#[derive(Drop)]
+#[derive(Clone, Copy)]
 enum Multiple {
     Reached {
         multiple: u32,

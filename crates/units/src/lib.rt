@@ -1,11 +1,13 @@
 // Microseconds to slices: a run-time by what the tick leaves of a slice, rounded up; a period by exact division; a deadline rounded
 // down.
+#![tactic(auto)]
+
 ghost use Rattle.std.specs.Prelude.{◌≡◌, ◌<◌, ◌-◌};
 ghost use Rattle.basis.specs.Slices.{ceil};
 ghost use Rattle.units.specs.Conversion.{runtime_slices, period_slices, deadline_slices};
 
 // A conversion's answer: so many slices, or refusal 17.
-#[derive(Drop)]
+#[derive(Clone, Copy)]
 pub enum Slices {
     Count(u32),
     Refused,

@@ -1,5 +1,7 @@
 // The dump program: reads a task list from standard input and writes the filling run in which every job takes its whole
 // run-time, which is the list's table, as a Value Change Dump on standard output, or prints the refusal.
+#![tactic(auto)]
+
 ghost use Rattle.std.specs.Prelude.{◌≤◌, length};
 ghost use Rattle.output.specs.Vcd.{VcdAnswers};
 

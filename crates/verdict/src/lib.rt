@@ -1,4 +1,6 @@
 // The verdict on a task list, and its table.
+#![tactic(auto)]
+
 mod walk; // the slice rule over a cycle, from event to event
 
 ghost use Rattle.std.specs.Prelude.{◌≡◌, ℕ, ◌≤◌, length};
@@ -15,7 +17,7 @@ use tasks::{Bounds, TaskList};
 // The verdict: accepted with the cycle, the job count, the tightest task and its margin; or refused by number, with the task
 // that it names and, for lateness, the margin below zero. Refusal 6 says why: the multiple reached before the task, and the
 // task's period, which brings it above 4,096; of any other both are 0.
-#[derive(Drop)]
+#[derive(Clone, Copy)]
 pub enum Verdict {
     Accepted {
         cycle: u32,
@@ -33,7 +35,7 @@ pub enum Verdict {
 }
 
 // A missed deadline: the task, from 1, and the slices that its job lacked. Task 0: none.
-#[derive(Drop)]
+#[derive(Clone, Copy)]
 pub struct Late {
     pub task: usize,
     pub short: u32,

@@ -132,7 +132,7 @@ fn turn_one(
 }
 
 // The first task by rank that misses its deadline at slice t; if none does, the next event of all.
-#[derive(Drop)]
+#[derive(Clone, Copy)]
 struct Turned {
     late: Late,
     next: u32,

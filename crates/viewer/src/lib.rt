@@ -1,4 +1,6 @@
 // What a logic viewer shows of a task list: a run written as a Value Change Dump, one read back, and one explained by needs.
+#![tactic(auto)]
+
 ghost use Rattle.std.specs.Prelude.{◌≡◌, ◌≤◌, length};
 ghost use Rattle.basis.specs.Bytes.{at, overwrite};
 ghost use Rattle.explain.specs.Seen.{refused_by};

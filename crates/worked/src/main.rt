@@ -1,5 +1,7 @@
 // The lists that the rules paper works by hand and that no theorem states, microseconds, and its run on A: each value found beside
 // the paper's.
+#![tactic(auto)]
+
 use libc::STDOUT_FILENO;
 use start::Asked;
 use tasks::{Task, TaskList};
@@ -7,7 +9,7 @@ use units::Slices;
 use verdict::Verdict;
 
 // What the comparisons came to so far.
-#[derive(Drop)]
+#[derive(Clone, Copy)]
 struct Tally {
     agree: u32,
     differ: u32,
@@ -82,7 +84,7 @@ fn task(period: u32, runtime: u32) -> Task {
 }
 
 // What the paper gives of a verdict, as numbers: 0 for none.
-#[derive(Drop)]
+#[derive(Clone, Copy)]
 struct Numbers {
     refusal: u32,
     task: u32,
@@ -191,7 +193,7 @@ fn part_of_a_slice(tally: Tally) -> Tally {
 }
 
 // A conversion's answer as the paper has it: a refused one answers 0.
-#[derive(Drop)]
+#[derive(Clone, Copy)]
 struct Converted {
     refusal: u32,
     slices: u32,
