@@ -1,0 +1,12 @@
+-- `tasks::is_within` meets its contract.
+use borrow.Author.Tests.{lt-leb, le-leb}
+use Rattle.basis.specs.Choose.{within}
+use Rattle.tasks.proofs.is_within.Goals as goal
+
+pub returns-then-x-low : goal.returns-then-x-low
+unfolding within
+returns-then-x-low c = rw (lt-leb _ _ c.if-x-low.true)
+
+pub returns-else-x-low : goal.returns-else-x-low
+unfolding within
+returns-else-x-low c = rw (le-leb _ _ c.if-x-low.false)
