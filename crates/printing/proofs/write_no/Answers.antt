@@ -1,0 +1,9 @@
+-- `printing::write_no` meets its contract.
+use Rattle.printing.specs.Text.{ascii, crlf, no_text}
+use Rattle.printing.proofs.Chain.{put_whole}
+use borrow.Author.Rules.{rules}
+use Rattle.printing.proofs.write_no.Goals as goal
+
+pub returns : goal.returns
+unfolding no_text crlf ascii
+returns c = put_whole c.put_text.ensures
