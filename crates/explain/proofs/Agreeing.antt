@@ -10,8 +10,8 @@ use Rattle.basis.specs.Bytes.{at}
 use Rattle.basis.specs.Choose.{choose, below_suc}
 use Rattle.basis.specs.Sum.{sum, sum_ext}
 use Rattle.plan.specs.Plan.{Plan, Sound, Demand, release, job, age, key_in, wants, pick, gets, had, entry, given, takes, filling, OnTimeUpTo, first}
-use Rattle.plan.specs.Rank.{first_ext}
-use Rattle.plan.specs.Run.{release_age, job_at, age_at, age_below, age_goes_on, had_since}
+use Rattle.plan.proofs.Rank.{first_ext}
+use Rattle.plan.proofs.Run.{release_age, job_at, age_at, age_below, age_goes_on, had_since}
 use Rattle.needs.specs.Explained.{Explains, given_in}
 use Rattle.needs.specs.Candidate.{window_within, released_within, candidate_within, candidate_leads, explains_if}
 

@@ -12,7 +12,7 @@ use Rattle.basis.specs.Bytes.{at}
 use Rattle.basis.specs.Choose.{below_suc}
 use Rattle.basis.specs.Sum.{sum, sum_grows}
 use Rattle.plan.specs.Plan.{Demand, release, gets}
-use Rattle.plan.specs.Work.{gets_one, gets_none}
+use Rattle.plan.proofs.Work.{gets_one, gets_none}
 use Rattle.needs.specs.Explained.{given_in}
 use Rattle.tasks.specs.declared.TaskList.{TaskList}
 use Rattle.tasks.specs.List.{task_at, plan_of}

@@ -14,9 +14,10 @@ use Rattle.basis.specs.Bytes.{at, overwrite, overwrite-length, overwrite_kept, o
 use Rattle.basis.specs.Choose.{choose, choose_yes, choose_no, choose_either, eq_or_ne, below_suc, both_true, ltb_same, within, within_tells, is_within}
 use Rattle.basis.specs.Sum.{sum_zero, sum_le, sum_same}
 use Rattle.plan.specs.Plan.{Plan, Sound, release, job, age, key_in, gets, first}
-use Rattle.plan.specs.Work.{gets_none, gets_cases}
-use Rattle.plan.specs.Order.{FirstIn, ranked_first}
-use Rattle.plan.specs.Run.{release_age, goes_on_or_ends, job_goes_on, age_anew, job_anew}
+use Rattle.plan.proofs.Work.{gets_none, gets_cases}
+use Rattle.plan.specs.Order.{FirstIn}
+use Rattle.plan.proofs.Order.{ranked_first}
+use Rattle.plan.proofs.Run.{release_age, goes_on_or_ends, job_goes_on, age_anew, job_anew}
 use Rattle.ranking.specs.Ranks.{Shows}
 use Rattle.explain.specs.Shapes.{start_then, got_then, fits_at, all_to, start_at, got_at, CanGoBack, Back, waits_for, waits_at, CanWait}
 use Rattle.explain.proofs.Agreeing.{rest, waits, Agrees, rest_last, rest_goes_on}

@@ -14,8 +14,8 @@ use Rattle.basis.specs.Slices.{ceil}
 use Rattle.basis.specs.Sum.{sum_ext}
 use Rattle.basis.specs.Answer.{Answer, refusal, clash, none, ◌or_else◌, first_found}
 use Rattle.plan.specs.Plan.{Plan, Demand, job, age, key_in, wants, pick, gets, had, entry, table, takes, filling, given, ranks_before, asks, bound}
-use Rattle.plan.specs.Rank.{first_ext}
-use Rattle.plan.specs.Run.{had_first_lem, had_next}
+use Rattle.plan.proofs.Rank.{first_ext}
+use Rattle.plan.proofs.Run.{had_first_lem, had_next}
 use Rattle.plan.specs.Points.{in_level, is_multiple, is_point, points_from, points, passes_among, fails_at_points, first_without}
 use Rattle.tasks.specs.declared.Task.{Task}
 use Rattle.tasks.specs.declared.TaskList.{TaskList}

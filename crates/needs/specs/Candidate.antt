@@ -11,10 +11,11 @@ use Rattle.basis.specs.Bytes.{at}
 use Rattle.basis.specs.Choose.{le_or_lt}
 use Rattle.basis.specs.Sum.{sum, sum_ext, sum_le, sum_same}
 use Rattle.plan.specs.Plan.{Plan, Sound, Demand, release, job, age, key_in, wants, pick, gets, had, entry, given, OnTimeUpTo, table, takes, filling}
-use Rattle.plan.specs.Rank.{first_ext}
-use Rattle.plan.specs.Run.{goes_on_or_ends, release_age, lacks, lacks_open, lacks_shut, had_first_lem, had_goes_on, had_anew, had_since, given_in_none}
-use Rattle.plan.specs.Counting.{entries_add_up, entries_of_jobs, deadline_within, on_time_exact}
-use Rattle.plan.specs.Domination.{filling_on_time}
+use Rattle.plan.proofs.Rank.{first_ext}
+use Rattle.plan.specs.Run.{lacks}
+use Rattle.plan.proofs.Run.{goes_on_or_ends, release_age, lacks_open, lacks_shut, had_first_lem, had_goes_on, had_anew, had_since, given_in_none}
+use Rattle.plan.proofs.Counting.{entries_add_up, entries_of_jobs, deadline_within, on_time_exact}
+use Rattle.plan.proofs.Domination.{filling_on_time}
 use Rattle.needs.specs.Explained.{Explains, given_in}
 
 -- ---- a run goes by what is released

@@ -11,8 +11,8 @@ use Rattle.basis.specs.Choose.{choose_yes, choose_no, le_or_lt}
 use Rattle.basis.specs.Bytes.{at, overwrite, overwrite-length, overwrite_at, overwrite_kept}
 use Rattle.basis.specs.Answer.{refusal, none}
 use Rattle.plan.specs.Plan.{Demand, OnTimeUpTo, deadline, job, takes}
-use Rattle.plan.specs.Run.{had_first_lem}
-use Rattle.plan.specs.Progress.{nothing_before_release}
+use Rattle.plan.proofs.Run.{had_first_lem}
+use Rattle.plan.proofs.Progress.{nothing_before_release}
 use Rattle.tasks.specs.declared.Task.{Task}
 use Rattle.tasks.specs.declared.TaskList.{TaskList}
 use Rattle.tasks.specs.List.{task_at, plan_of}

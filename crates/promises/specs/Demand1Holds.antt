@@ -8,7 +8,7 @@ use Rattle.basis.specs.Choose.{choose, choose_yes, choose_no, bool_cases, eq_or_
 use Rattle.basis.specs.Answer.{Answer, refusal, none}
 use Rattle.basis.specs.Bytes.{at, overwrite, overwrite-length, overwrite_at, overwrite_kept}
 use Rattle.plan.specs.Plan.{IsFirst}
-use Rattle.plan.specs.Rank.{first_law, not_before_key, not_before_place}
+use Rattle.plan.proofs.Rank.{first_law, not_before_key, not_before_place}
 use Rattle.tasks.specs.declared.Task.{Task}
 use Rattle.tasks.specs.declared.TaskList.{TaskList}
 use Rattle.tasks.specs.List.{task_at, plan_of}

@@ -10,13 +10,14 @@ use Rattle.std.proofs.Math.IntN.{sub_ℕ}
 use Rattle.std.proofs.Math.ListN.{length}
 use Rattle.basis.specs.Choose.{choose_yes, choose_no, le_or_lt}
 use Rattle.basis.specs.Sum.{sum, sum_ext, sum_same}
-use Rattle.plan.specs.Counting.{entries_in_cycle}
+use Rattle.plan.proofs.Counting.{entries_in_cycle}
 use Rattle.basis.specs.Least.{least, least_law}
 use Rattle.basis.specs.Bytes.{overwrite, overwrite-length, overwrite_at, overwrite_kept}
 use Rattle.plan.specs.Plan.{Plan, Monotonic, release, deadline, job, age, key_in, ranks_before, gets, given, table, HadBy, OnTime, OnTimeUpTo, IsFirst, NoneWants, FirstTask}
-use Rattle.plan.specs.Run.{had_after_lem}
-use Rattle.plan.specs.Rank.{first_law, not_before_key, not_before_place}
-use Rattle.plan.specs.ExactTest.{AllPass, test_exact_up_to, FirstFailing, late_has_first_failing, first_failing_late, first_failing_earliest}
+use Rattle.plan.proofs.Run.{had_after_lem}
+use Rattle.plan.proofs.Rank.{first_law, not_before_key, not_before_place}
+use Rattle.plan.specs.ExactTest.{AllPass, FirstFailing}
+use Rattle.plan.proofs.ExactTest.{test_exact_up_to, late_has_first_failing, first_failing_late, first_failing_earliest}
 use Rattle.tasks.specs.declared.TaskList.{TaskList}
 use Rattle.tasks.specs.declared.Bounds.TheVariants.{Kept, Broken}
 use Rattle.tasks.specs.List.{plan_of}

@@ -12,9 +12,10 @@ use Rattle.basis.specs.Choose.{choose, le_or_lt, eq_or_ne}
 use Rattle.basis.specs.Least.{least, least_law}
 use Rattle.basis.specs.Answer.{refusal, none}
 use Rattle.plan.specs.Plan.{Sound, Demand, release, deadline, job, had, entry, takes, filling, by_table, HadBy, OnTime, OnTimeUpTo}
-use Rattle.plan.specs.Counting.{deadline_within}
-use Rattle.plan.specs.Progress.{elapsed, had_up_to, settled, nothing_before_release, grows_in_own, others_stay, on_time_had}
-use Rattle.plan.specs.Domination.{on_time_before, filling_ends_no_later, lower_needs_delay_none}
+use Rattle.plan.proofs.Counting.{deadline_within}
+use Rattle.plan.specs.Progress.{elapsed, had_up_to}
+use Rattle.plan.proofs.Progress.{settled, nothing_before_release, grows_in_own, others_stay, on_time_had}
+use Rattle.plan.proofs.Domination.{on_time_before, filling_ends_no_later, lower_needs_delay_none}
 use Rattle.tasks.specs.declared.TaskList.{TaskList}
 use Rattle.tasks.specs.List.{plan_of}
 use Rattle.tasks.specs.Bounds.{cycle_of, jobs_of}

@@ -9,7 +9,7 @@ use Rattle.basis.specs.Bytes.{at, overwrite_same}
 use Rattle.basis.specs.Choose.{choose, le_or_lt, eq_or_ne}
 use Rattle.basis.specs.Sum.{sum}
 use Rattle.plan.specs.Plan.{Demand, key_in}
-use Rattle.plan.specs.Order.{one_order}
+use Rattle.plan.proofs.Order.{one_order}
 use Rattle.needs.specs.Candidate.{one_explanation}
 use Rattle.tasks.specs.declared.TaskList.{TaskList}
 use Rattle.tasks.specs.declared.Bounds.{Bounds}

@@ -9,16 +9,17 @@ use borrow.Author.Tests.{le-leb, lt-leb, lt-ltb, le-ltb}
 use Rattle.std.proofs.Math.ListN.{get_or}
 use Rattle.basis.specs.Choose.{choose, choose_yes, choose_no, choose_either, le_or_lt}
 use Rattle.plan.specs.Plan.{Plan, Sound, Demand, job, age, key_in, pick, had, entry, takes, table, filling, by_table, unless_ended as unlessHad, first, OnTimeUpTo}
-use Rattle.plan.specs.Rank.{first_same}
-use Rattle.plan.specs.Run.{lacks, lacks_open, lacks_most, had_room}
-use Rattle.plan.specs.Progress.{had_whole}
-use Rattle.plan.specs.Counting.{entry_within}
+use Rattle.plan.proofs.Rank.{first_same}
+use Rattle.plan.specs.Run.{lacks}
+use Rattle.plan.proofs.Run.{lacks_open, lacks_most, had_room}
+use Rattle.plan.proofs.Progress.{had_whole}
+use Rattle.plan.proofs.Counting.{entry_within}
 use Rattle.run.specs.declared.Mode.{Mode}
 use Rattle.run.specs.declared.Mode.TheVariants.{Table, Filling}
 use Rattle.run.specs.declared.State.{State}
 use Rattle.run.specs.declared.Next.{Next}
 use Rattle.run.specs.declared.Closed.TheVariants.{Accepted}
-use Rattle.plan.specs.Domination.{on_time_before, filling_on_time}
+use Rattle.plan.proofs.Domination.{on_time_before, filling_on_time}
 use Rattle.run.specs.State.{key_of, current_of, job_of}
 use Rattle.run.specs.Who.{unless_ended, first_open, running_by, running}
 use Rattle.run.specs.Step.{next_clock, Stepped}

@@ -9,8 +9,8 @@ use Prim.Native.Nat.{ℕ, suc, ◌+◌, ◌/◌, ◌≤◌, ◌<◌}
 use Rattle.std.proofs.Math.ListN.{get_or}
 use Rattle.basis.specs.Choose.{choose, both_true, bool_cases, le_or_lt, eq_or_ne, either_false}
 use Rattle.plan.specs.Plan.{Plan, Sound, release, deadline, job, age}
-use Rattle.plan.specs.Run.{goes_on_or_ends, job_goes_on as job_stays, job_anew as job-follows, age_below, release_age}
-use Rattle.plan.specs.Progress.{releases_grow}
+use Rattle.plan.proofs.Run.{goes_on_or_ends, job_goes_on as job_stays, job_anew as job-follows, age_below, release_age}
+use Rattle.plan.proofs.Progress.{releases_grow}
 use Rattle.run.specs.declared.State.{State}
 use Rattle.run.specs.State.{Job, fresh, current_of, job_of, deadline_next, release_next, offset, place}
 use Rattle.run.specs.Who.{running}

@@ -13,8 +13,10 @@ use Rattle.basis.specs.Choose.{bool_cases}
 use Rattle.basis.specs.Answer.{Answer, refusal, none}
 use Rattle.basis.specs.Slices.{mod_at}
 use Rattle.plan.specs.Plan.{Plan, Sound, bound, Passes}
-use Rattle.plan.specs.ExactTest.{AllPass, FirstFailing, fails_first_alone}
-use Rattle.plan.specs.Points.{level_own, level_before, level_tells, Point, Multiple, points, points_are, points_rise, points_enough, passes_among, Among, first_without, found_failing, none_found_pass}
+use Rattle.plan.specs.ExactTest.{AllPass, FirstFailing}
+use Rattle.plan.proofs.ExactTest.{fails_first_alone}
+use Rattle.plan.specs.Points.{Point, Multiple, points, passes_among, Among, first_without}
+use Rattle.plan.proofs.Points.{level_own, level_before, level_tells, points_are, points_rise, points_enough, found_failing, none_found_pass}
 use Rattle.tasks.specs.declared.TaskList.{TaskList}
 use Rattle.tasks.specs.declared.Bounds.{Bounds}
 use Rattle.tasks.specs.declared.Bounds.TheVariants.{Kept, Broken}

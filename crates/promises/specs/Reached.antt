@@ -9,10 +9,11 @@ use Rattle.std.proofs.Math.ListN.{get_or}
 use Rattle.basis.specs.Choose.{choose, choose_yes, choose_no, choose_either, bool_cases, le_or_lt, eq_or_ne}
 use Rattle.basis.specs.Answer.{refusal, none}
 use Rattle.plan.specs.Plan.{Plan, Sound, Demand, job, age, gets, had, entry, takes, OnTimeUpTo}
-use Rattle.plan.specs.Work.{gets_one, gets_none, gets_cases}
-use Rattle.plan.specs.Progress.{had_up_to, on_time_had, on_time_grows, others_stay}
-use Rattle.plan.specs.Domination.{had_by_deadline, on_time_before}
-use Rattle.plan.specs.Run.{goes_on_or_ends, job_goes_on as job_stays, had_goes_on, had_anew}
+use Rattle.plan.proofs.Work.{gets_one, gets_none, gets_cases}
+use Rattle.plan.specs.Progress.{had_up_to}
+use Rattle.plan.proofs.Progress.{on_time_had, on_time_grows, others_stay}
+use Rattle.plan.proofs.Domination.{had_by_deadline, on_time_before}
+use Rattle.plan.proofs.Run.{goes_on_or_ends, job_goes_on as job_stays, had_goes_on, had_anew}
 use Rattle.run.specs.declared.Mode.{Mode}
 use Rattle.run.specs.declared.State.{State}
 use Rattle.run.specs.State.{Job, fresh, runtime_of, current_of, job_of, deadline_next, offset, job_count, place}

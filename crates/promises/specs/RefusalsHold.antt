@@ -12,7 +12,8 @@ use Rattle.basis.specs.Choose.{choose, both_true, choose_yes, choose_no, choose_
 use Rattle.basis.specs.Answer.{Answer, alike, refusal, clash, none, ◌or_else◌, first_found, none_number, else_choose, found_none, none_found}
 use Rattle.basis.specs.Rules.{naming, rule, saying, Breaks, no_more, ◌then◌, ◌and_then◌, Refused, GoesBy, goes_on, goes_then, goes_as, Refuses, plain_refuses, breaks_saying, breaks_naming, saying_told, goes_by_rule, goes_unless, first_goes}
 use Rattle.plan.specs.Plan.{given}
-use Rattle.plan.specs.ExactTest.{AllPass, fails_first_alone}
+use Rattle.plan.specs.ExactTest.{AllPass}
+use Rattle.plan.proofs.ExactTest.{fails_first_alone}
 use Rattle.tasks.specs.declared.Task.{Task}
 use Rattle.tasks.specs.declared.TaskList.{TaskList}
 use Rattle.tasks.specs.List.{task_at, plan_of}

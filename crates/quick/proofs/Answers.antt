@@ -11,9 +11,11 @@ use Rattle.basis.specs.Choose.{eq_or_ne}
 use Rattle.basis.specs.Slices.{ceil}
 use Rattle.basis.specs.Sum.{sum, sum_ext}
 use Rattle.plan.specs.Plan.{Plan, Monotonic, Sound, job, key_in, asks, bound, Passes}
-use Rattle.plan.specs.Rank.{not_before_key}
-use Rattle.plan.specs.Order.{behind_not_before, sum_before, FirstIn, ranked_first}
-use Rattle.plan.specs.Points.{fails_at_points, fails_at_points_lem, first_without}
+use Rattle.plan.proofs.Rank.{not_before_key}
+use Rattle.plan.specs.Order.{FirstIn}
+use Rattle.plan.proofs.Order.{behind_not_before, sum_before, ranked_first}
+use Rattle.plan.specs.Points.{fails_at_points, first_without}
+use Rattle.plan.proofs.Points.{fails_at_points_lem}
 use Rattle.tasks.specs.declared.TaskList.{TaskList}
 use Rattle.tasks.specs.declared.Bounds.TheVariants.{Kept, Broken}
 use Rattle.tasks.specs.List.{plan_of}

@@ -5,7 +5,7 @@ use Rattle.std.proofs.lemmas.Bool.{eqb-false}
 use Rattle.basis.specs.Choose.{choose, choose_yes, choose_no, bool_cases, both_false, either_false}
 use Rattle.basis.specs.Answer.{Answer, refusal, none, ◌or_else◌, passed_if, passed_unless, none_number, else_none, none_else}
 use Rattle.plan.specs.Plan.{IsFirst}
-use Rattle.plan.specs.Rank.{first_law}
+use Rattle.plan.proofs.Rank.{first_law}
 use Rattle.run.specs.declared.Mode.{Mode}
 use Rattle.run.specs.declared.Mode.TheVariants.{Table, Filling}
 use Rattle.run.specs.declared.State.{State}

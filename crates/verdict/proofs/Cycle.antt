@@ -6,10 +6,11 @@ use lib.ListN.{length-replicate}
 use Rattle.basis.specs.Bytes.{at, overwrite_at, zeros}
 use Rattle.basis.specs.Choose.{le_or_lt, choose_yes, choose_no}
 use Rattle.plan.specs.Plan.{Plan, Sound, Monotonic, release, job, age, key_in, table, deadline, OnTime, OnTimeUpTo}
-use Rattle.plan.specs.Rank.{not_before_key}
-use Rattle.plan.specs.Order.{behind_not_before}
-use Rattle.plan.specs.Run.{release_age, had_first_lem, lacks_open}
-use Rattle.plan.specs.Events.{next_event, event_open, event_later, event_by_release, goes_to_one}
+use Rattle.plan.proofs.Rank.{not_before_key}
+use Rattle.plan.proofs.Order.{behind_not_before}
+use Rattle.plan.proofs.Run.{release_age, had_first_lem, lacks_open}
+use Rattle.plan.specs.Events.{next_event}
+use Rattle.plan.proofs.Events.{event_open, event_later, event_by_release, goes_to_one}
 use Rattle.tasks.specs.declared.TaskList.{TaskList}
 use Rattle.tasks.specs.List.{plan_of}
 use Rattle.tasks.specs.Bounds.{cycle_of}

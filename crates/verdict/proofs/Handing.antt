@@ -3,7 +3,8 @@ use Rattle.std.proofs.Common.{◌≡◌, ℕ, suc, ◌+◌, ◌-◌, ◌<◌, �
 use Rattle.basis.specs.Bytes.{at, overwrite, overwrite_kept, overwrite_next, overwrite_rest, as_it_was}
 use Rattle.basis.specs.Choose.{choose, choose_yes, choose_no, le_or_lt, eq_or_ne, ltb_same, both_false}
 use Rattle.basis.specs.Sum.{sum, sum_grows}
-use Rattle.plan.specs.Events.{left, to_come_left, GoesTo}
+use Rattle.plan.specs.Events.{left, GoesTo}
+use Rattle.plan.proofs.Events.{to_come_left}
 use Rattle.verdict.specs.Shapes.{until, end_after, Filled, Written, HandedOne, HandedOut}
 
 -- a choice by two tests of which the second fails

@@ -7,8 +7,8 @@ use native.Mathlib.Omega.{arith}
 use Rattle.std.proofs.Math.Nat.{suc_inj}
 use Rattle.basis.specs.Choose.{choose_yes, choose_no, eq_or_ne}
 use Rattle.plan.specs.Plan.{Plan, Sound, release, deadline, job, age, key_in, IsFirst, NoneWants, FirstTask, given, table, HadBy, OnTime, OnTimeUpTo}
-use Rattle.plan.specs.Rank.{first_law, first_is}
-use Rattle.plan.specs.Run.{release_age, job_at, age_at, had_after_lem}
+use Rattle.plan.proofs.Rank.{first_law, first_is}
+use Rattle.plan.proofs.Run.{release_age, job_at, age_at, had_after_lem}
 use Rattle.verdict.specs.declared.Late.{Late}
 use Rattle.verdict.specs.Lateness.{received, missing, missed_at, late_by, earlier, lateness}
 

@@ -7,9 +7,9 @@ use borrow.Author.Tests.{le-leb, lt-leb, lt-ltb, le-ltb}
 use Rattle.basis.specs.Choose.{choose, choose_yes, choose_no, le_or_lt}
 use Rattle.basis.specs.Least.{least, least_law, least_is}
 use Rattle.plan.specs.Plan.{Plan, Sound, release, gets, given, entry, table, OnTime}
-use Rattle.plan.specs.Work.{gets_one, gets_none}
-use Rattle.plan.specs.Run.{given_in_none, given_more}
-use Rattle.plan.specs.Counting.{given_grows, on_time_exact}
+use Rattle.plan.proofs.Work.{gets_one, gets_none}
+use Rattle.plan.proofs.Run.{given_in_none, given_more}
+use Rattle.plan.proofs.Counting.{given_grows, on_time_exact}
 use Rattle.verdict.specs.Margin.{first_end}
 
 -- The first slice before which the first job of task i has had x slices; its deadline if there is none.

@@ -5,8 +5,9 @@ use Rattle.std.proofs.Math.Logic.{⊎_elim}
 use borrow.Author.Tests.{eq-eqb, ne_eqb, lt-ltb, le-ltb, ltb-true, ltb-false}
 use Rattle.basis.specs.Choose.{choose, bool_cases, le_or_lt, eq_or_ne, below_suc}
 use Rattle.plan.specs.Plan.{Plan, key_in, ranks_before}
-use Rattle.plan.specs.Rank.{rank, rank_tells, not_before_key, not_before_place}
-use Rattle.plan.specs.Order.{not_itself}
+use Rattle.plan.specs.Rank.{rank}
+use Rattle.plan.proofs.Rank.{rank_tells, not_before_key, not_before_place}
+use Rattle.plan.proofs.Order.{not_itself}
 use Rattle.verdict.specs.Margin.{margin, tighter, tightest}
 
 -- of equal margins the rank decides, and otherwise the margin

@@ -9,9 +9,12 @@ use Rattle.basis.specs.Bytes.{at, overwrite, overwrite-length, overwrite_at}
 use Rattle.basis.specs.Choose.{choose, choose_yes, choose_no, choose_either, le_or_lt, eq_or_ne}
 use Rattle.basis.specs.Sum.{sum}
 use Rattle.plan.specs.Plan.{Plan, Sound, release, deadline, job, age, key_in, gets, table, OnTimeUpTo}
-use Rattle.plan.specs.Run.{release_age, lacks, lacks_open, lacks_shut}
-use Rattle.plan.specs.Order.{ranked_first, one_place, FirstIn}
-use Rattle.plan.specs.Events.{next_event, event_open, event_by_release, deadline_not_before, event_inside, ComesTo, before_event, at_deadline, at_release, left, GoesTo, goes_to_one, entry_goes, after_left}
+use Rattle.plan.specs.Run.{lacks}
+use Rattle.plan.proofs.Run.{release_age, lacks_open, lacks_shut}
+use Rattle.plan.specs.Order.{FirstIn}
+use Rattle.plan.proofs.Order.{ranked_first, one_place}
+use Rattle.plan.specs.Events.{next_event, left, GoesTo}
+use Rattle.plan.proofs.Events.{event_open, event_by_release, deadline_not_before, event_inside, ComesTo, before_event, at_deadline, at_release, goes_to_one, entry_goes, after_left}
 use Rattle.tasks.specs.declared.TaskList.{TaskList}
 use Rattle.tasks.specs.List.{plan_of}
 use Rattle.tasks.specs.Bounds.{cycle_of}

@@ -9,9 +9,11 @@ use Rattle.std.proofs.Math.Nat.{mul-le-mul_left, mul-add, mul-zero}
 use Rattle.basis.specs.Choose.{le_or_lt, eq_or_ne}
 use Rattle.basis.specs.Slices.{ceil, ceil_zero, ceil_suc, ceil_sum}
 use Rattle.plan.specs.Plan.{Plan, Monotonic, Demand, job, age, key_in, gets, entry, asks, IsFirst}
-use Rattle.plan.specs.Rank.{same_law}
-use Rattle.plan.specs.Work.{before, before_le, before_add, after, work_falls}
-use Rattle.plan.specs.Run.{goes_on_or_ends, age_goes_on, job_goes_on, job_anew, lacks, lacks_shut, lacks_most, lacks_goes_on, entry_law}
+use Rattle.plan.proofs.Rank.{same_law}
+use Rattle.plan.specs.Work.{before, after}
+use Rattle.plan.proofs.Work.{before_le, before_add, work_falls}
+use Rattle.plan.specs.Run.{lacks}
+use Rattle.plan.proofs.Run.{goes_on_or_ends, age_goes_on, job_goes_on, job_anew, lacks_shut, lacks_most, lacks_goes_on, entry_law}
 
 -- ---- what a task asks for
 module _ (P : Plan) (monotonic : Monotonic P) (j : ℕ) (lj : j < P.count) where

@@ -9,8 +9,10 @@ use native.Mathlib.Omega.{arith}
 use Rattle.basis.specs.Choose.{le_or_lt, eq_or_ne}
 use Rattle.plan.specs.Plan.{Plan, Sound, Demand, release, deadline, job, age, key_in, gets, had, entry, given, HadBy, EndsBy, EndsByTable, OnTime, OnTimeUpTo, takes}
 use Rattle.plan.specs.Work.{after}
-use Rattle.plan.specs.Run.{goes_on_or_ends, age_goes_on, job_goes_on, job_at, age_at, release_age, lacks, lacks_open, lacks_shut, lacks_goes_on, entry_law, had_anew, had_first_lem, had_after_lem, given_at, given_in_none}
-use Rattle.plan.specs.Ahead.{Ahead, Stays, Turns, ahead_at_start, ahead_after, ahead_turned}
+use Rattle.plan.specs.Run.{lacks}
+use Rattle.plan.proofs.Run.{goes_on_or_ends, age_goes_on, job_goes_on, job_at, age_at, release_age, lacks_open, lacks_shut, lacks_goes_on, entry_law, had_anew, had_first_lem, had_after_lem, given_at, given_in_none}
+use Rattle.plan.specs.Ahead.{Ahead, Stays, Turns}
+use Rattle.plan.proofs.Ahead.{ahead_at_start, ahead_after, ahead_turned}
 
 -- a larger demand lacks more, where as much was had
 lacks_more : (P : Plan) (d d' c c' : Demand) (t i : ℕ) → ((k : ℕ) → d i k ≤ d' i k) → had P c' t i ≤ had P c t i → lacks P d c t i ≤ lacks P d' c' t i

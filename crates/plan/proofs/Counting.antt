@@ -10,8 +10,9 @@ use Rattle.std.proofs.Math.Nat.{div-mul_cancel}
 use Rattle.basis.specs.Choose.{choose_yes, choose_no, eq_or_ne}
 use Rattle.basis.specs.Sum.{sum, sum_zero, sum_add, sum_ext, sum_more_at}
 use Rattle.plan.specs.Plan.{Plan, Sound, Demand, release, deadline, OnTime, OnTimeUpTo, HadBy, key_in, gets, entry, table, given, idles, idle, NoneWants, FirstTask, IsFirst}
-use Rattle.plan.specs.Work.{gets_one, gets_none}
-use Rattle.plan.specs.Run.{lacks, entry_law, given_in_none, given_more, never_more}
+use Rattle.plan.proofs.Work.{gets_one, gets_none}
+use Rattle.plan.specs.Run.{lacks}
+use Rattle.plan.proofs.Run.{entry_law, given_in_none, given_more, never_more}
 
 module _ (P : Plan) (d : Demand) (i : ℕ) where
   -- What is given in two stretches, one after the other.
