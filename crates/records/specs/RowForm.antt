@@ -170,11 +170,13 @@ two_read {a = a} {b = b} {x = x} {y = y} rest field field₂ =
 three_read : {line : List ℕ} {x y z : ℕ} → Fields line (x ∷ y ∷ z ∷ []) → line_from fresh line ≡ in_field (third x y) z
 three_read {x = x} {y = y} {z = z} (more field (more field₂ (one {bytes = c} field₃))) =
     two_read c field field₂ ∙ field_read (third x y) refl refl c z field₃
+three_read {x = x} {y = y} {z = z} (more {bytes = bytes} field (more field₂ (more {rest = rest} _ h))) = elim h [ ]
 
 four_read : {line : List ℕ} {x y z w : ℕ} → Fields line (x ∷ y ∷ z ∷ w ∷ []) → line_from fresh line ≡ in_field (fourth x y z) w
 unfolding with_comma choose
 four_read {x = x} {y = y} {z = z} {w = w} (more field (more field₂ (more {bytes = c} field₃ (one {bytes = d} field₄)))) =
     two_read (c ++ comma ∷ d) field field₂ ∙ then_comma (third x y) refl refl c d z field₃ ∙ field_read (fourth x y z) refl refl d w field₄
+four_read {x = x} {y = y} {z = z} {w = w} (more {bytes = bytes} field (more field₂ (more {bytes = c} field₃ (more {rest = rest} _ h)))) = elim h [ ]
 
 -- ---- out of form once is out of form for good
 spoilt_stays : (b : ℕ) → with_byte spoilt b ≡ spoilt

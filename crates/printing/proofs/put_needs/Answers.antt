@@ -19,7 +19,7 @@ loop-i-init c = (omega arith, omega arith, put_nothing _ _)
 pub put_jobs-after-requires : goal.put_jobs-after-requires
 put_jobs-after-requires c = 
     let known = c.shared_slice_known-1 in
-    (rw (add-one, c.number_at-count.ensures, c.loop-i.invariant.1) (task_room _ _ 16 _ c.requires c.loop-i.invariant.2 c.loop-i-test.true), omega (arith, c.number_at-count.ensures, place_fits (λ t. get_or c.args.jobs.now t 0) (λ i. omega (arith, known.given i)) c.loop-i.i c.loop-i-test.true))
+    record { room = rw (add-one, c.number_at-count.ensures, c.loop-i.invariant.1) (task_room _ _ 16 _ c.requires c.loop-i.invariant.2 c.loop-i-test.true); count_bound = omega (arith, c.number_at-count.ensures, place_fits (λ t. get_or c.args.jobs.now t 0) (λ i. omega (arith, known.given i)) c.loop-i.i c.loop-i-test.true) }
 
 pub overflow_add-from : goal.overflow_add-from
 overflow_add-from c = 

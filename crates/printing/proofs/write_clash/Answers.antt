@@ -16,4 +16,4 @@ unfolding clash_text clash_header crlf ascii
 returns c = 
     let fits = c.ranges in
     let whole = put_whole (chain c.put_text-next.ensures c.put_pair.ensures) in
-    (whole, clash_room_enough _ _ fits.reached fits.period whole)
+    record { written = whole; upper_bound = clash_room_enough _ _ fits.reached fits.period whole }

@@ -18,4 +18,4 @@ unfolding needs_text needs_header crlf ascii
 returns c = 
     let known = c.shared_slice_known-2-1 in
     let whole = put_whole (chain c.put_text-next.ensures c.put_needs.ensures) in
-    (whole, needs_room_enough _ _ (λ i. omega (arith, known.given i)) whole)
+    record { written = whole; upper_bound = needs_room_enough _ _ (λ i. omega (arith, known.given i)) whole }

@@ -16,4 +16,4 @@ unfolding quick_text quick_header crlf ascii
 returns c = 
     let fits = c.ranges in
     let whole = put_whole (chain c.put_text-next.ensures c.put_pair.ensures) in
-    (whole, quick_room_enough _ _ fits.number fits.task whole)
+    record { written = whole; upper_bound = quick_room_enough _ _ fits.number fits.task whole }

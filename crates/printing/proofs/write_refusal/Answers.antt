@@ -17,8 +17,7 @@ unfolding refusal_text refusal_header crlf ascii
 returns c = 
     let fits = c.ranges in
     let whole = put_whole (chain c.put_text-next.ensures (rw (back32 _ fits.margin) at c.put_refusal.ensures)) in
-    (whole, refusal_room_enough _ _ _ fits.number fits.task fits.margin whole)
-
+    record { written = whole; upper_bound = refusal_room_enough _ _ _ fits.number fits.task fits.margin whole }
 
 -- LEFT slice-aggregate-put-text : tie.Need-slice-aggregate-put-text
 -- slice-aggregate-put-text c = search rules

@@ -10,7 +10,7 @@ pub put_slices-requires : goal.put_slices-requires
 unfolding table_header crlf ascii
 put_slices-requires c = 
     let known = c.shared_slice_known-1 in
-    (table_room _ _ (omega arith) (λ i. omega (arith, known.given i)) c.put_text-next.ensures, omega arith)
+    record { room = table_room _ _ (omega arith) (λ i. omega (arith, known.given i)) c.put_text-next.ensures; count_in_bounds = omega arith }
 
 pub returns : goal.returns
 unfolding table_text table_header crlf ascii
@@ -18,8 +18,7 @@ returns c =
     let known = c.shared_slice_known-1 in
     let slices = rw (c.shorter-count.ensures, ← cycle_records) at c.put_slices.ensures in
     let whole = put_whole (chain c.put_text-next.ensures slices) in
-    (whole, table_room_enough _ _ (λ i. omega (arith, known.given i)) whole)
-
+    record { written = whole; upper_bound = table_room_enough _ _ (λ i. omega (arith, known.given i)) whole }
 
 -- LEFT slice-aggregate-put-text : tie.Need-slice-aggregate-put-text
 -- slice-aggregate-put-text c = search rules

@@ -46,7 +46,7 @@ pub returns-in_default : goal.returns-in_default
 returns-in_default c = sym (reads_no_refusal c.args.number (inl (omega arith)))
 
 pub returns-in_default-2 : goal.returns-in_default-2
-returns-in_default-2 c = sym (reads_no_refusal c.args.number (inr (inl (past-twenty _ (omega arith) c.in_default-1.rest.1, omega arith))))
+returns-in_default-2 c = sym (reads_no_refusal c.args.number (inr (inl (omega arith, omega arith))))
 
 pub returns-in_default-3 : goal.returns-in_default-3
 returns-in_default-3 c = sym (reads_no_refusal c.args.number (inr (inr (omega arith))))

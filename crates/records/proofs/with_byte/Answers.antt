@@ -9,7 +9,7 @@ unfolding with_byte
 returns-then-byte-eq44 c = search cases depth 12
 
 pub with_digit-requires : goal.with_digit-requires
-with_digit-requires c = digit_tells c.args.byte c.if-byte.true
+with_digit-requires c = let h = digit_tells c.args.byte c.if-byte.true in record { le_byte = h.0; byte_bound = h.1 }
 
 pub returns-then-byte : goal.returns-then-byte
 unfolding with_byte

@@ -1,0 +1,10 @@
+-- `verdict::copy` meets its contract: the entries before slice t are copied.
+use Rattle.std.proofs.Common.{◌≡◌, ◌-◌, ◌≤◌, refl, arith}
+use Rattle.basis.specs.Bytes.{at, overwrite, overwritten_length, overwrite_next}
+use Rattle.verdict.proofs.copy.Given as goal
+
+abbrev pub invariant-loop-t : goal.invariant-loop-t
+invariant-loop-t l = (l.t ≤ l.cycle) × (l.table ≡ overwrite (at l.entries) l.t l.initial.table)
+
+abbrev pub decreases-loop-t : goal.decreases-loop-t
+decreases-loop-t l = l.cycle - l.t
