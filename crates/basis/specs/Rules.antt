@@ -103,10 +103,10 @@ goes_on rs qs a b goes goes-next = record {
 
 -- So does an answer that refuses as one that goes by the ones, and else goes by the others.
 pub goes_then : (rs qs : Rules) (a c : Answer) → GoesBy rs a → ((a.number ≡ 0 → ⊥) → c ≡ a) → (a.number ≡ 0 → GoesBy qs c) → GoesBy (rs and_then qs) c
-goes_then rs qs a c goes refuses Goes-by =
+goes_then rs qs a c goes refuses follows =
     subst (GoesBy (rs and_then qs))
     (⊎_elim (λ (z : a.number ≡ 0). else_found a c z) (λ (some : a.number ≡ 0 → ⊥). else_kept a c some ∙ sym (refuses some)) (eq_or_ne a.number 0))
-    (goes_on rs qs a c goes Goes-by)
+    (goes_on rs qs a c goes follows)
 
 -- And one that refuses as another does.
 pub goes_as : (rs : Rules) (a b : Answer) → GoesBy rs a → (a.number ≡ 0 → b.number ≡ 0) → ((a.number ≡ 0 → ⊥) → b ≡ a) → GoesBy rs b

@@ -115,7 +115,7 @@ module _ (s : State) (table : List ℕ) (clock report : ℕ) (log : List ℕ) (r
   within_log : (i : ℕ) → i < s.count → place_in s.periods s.cycle s.position i < length log
   within_log i l = omega (arith, place_by_numbers s i, place_within s asked.is_sound asked.not_over i l, P.accepted.log_from)
 
-  module _ (in_all result : ℕ) (ei : in_all ≡ in_all ran s.used) (er : result ≡ result_byte s.runtimes ran in_all report) where
+  module _ (total result : ℕ) (ei : total ≡ in_all ran s.used) (er : result ≡ result_byte s.runtimes ran total report) where
     byte_is : result ≡ result_byte s.runtimes ran (in_all ran s.used) report
     byte_is = er ∙ ap (λ (x : ℕ). result_byte s.runtimes ran x report) ei
 

@@ -44,7 +44,7 @@ module _ (s : State) (ran report i : ℕ) where
       (bool_cases (deadline_next s i))
 
   pub job_goes_on : release_next s i ≡ false → (deadline_next s i ≡ true → (after_slice s ran report i).ended ≡ true) → job_after s ran report i ≡ after_slice s ran report i
-  job_goes_on e Ended-by = job_closed e ∙ closed_same Ended-by
+  job_goes_on e ended_by = job_closed e ∙ closed_same ended_by
 
 -- There is a place for every job; the arrays of the code have 16.
 pub record Room (s : State) : Type 0 where
@@ -145,13 +145,13 @@ module _ (s : State) (table : List ℕ) (clock report : ℕ) (log : List ℕ) (w
       (overwrite_at (λ k. (job_after s ran report k).ended) s.ended false s.count i l (omega (arith, R.ended_room)))
 
   module _ (i : ℕ) (l : i < s.count) where
-    abbrev Sound-with : ℕ → Job → Type 0
-    Sound-with = SoundTask s.cycle (period_of s i) (due_of s i) (runtime_of s i (current_of s i))
+    abbrev SoundWith : ℕ → Job → Type 0
+    SoundWith = SoundTask s.cycle (period_of s i) (due_of s i) (runtime_of s i (current_of s i))
 
-    before_sound : Sound-with (age_of s i) (job_of s i)
+    before_sound : SoundWith (age_of s i) (job_of s i)
     before_sound = went.asked.is_sound.tasks_sound i l
 
-    slice_sound : Sound-with (age_of s i) (after_slice s ran report i)
+    slice_sound : SoundWith (age_of s i) (after_slice s ran report i)
     slice_sound =
         ⊎_elim
         (λ (e : ran ≡ suc i). rw (slice_here s ran report i e) (ran_sound _ _ _ _ _ _ before_sound report (who_runs s table went.asked i e).job_open))
@@ -171,7 +171,7 @@ module _ (s : State) (table : List ℕ) (clock report : ℕ) (log : List ℕ) (w
         ∙ sym (choose_no _ _ _ (ne_eqb _ _ ne)))
         (eq_or_ne (suc (s.position % period_of s i)) (period_of s i))
 
-    turned_sound : Sound-with ((s.position + 1) % period_of s i) (job_after s ran report i)
+    turned_sound : SoundWith ((s.position + 1) % period_of s i) (job_after s ran report i)
     unfolding deadline_next
     turned_sound =
         ⊎_elim

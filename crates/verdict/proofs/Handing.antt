@@ -63,10 +63,10 @@ module _ (order dues lacks ends table : List ℕ) (n t next : ℕ) (ahead : t < 
   abbrev m : ℕ
   m = next - t
 
-  abbrev Handing-at : ℕ → ℕ → List ℕ → List ℕ → List ℕ → Type 0
-  Handing-at = Handing order dues lacks ends table n t next
+  abbrev HandingAt : ℕ → ℕ → List ℕ → List ℕ → List ℕ → Type 0
+  HandingAt = Handing order dues lacks ends table n t next
 
-  pub handing_none : Handing-at 0 t lacks ends table
+  pub handing_none : HandingAt 0 t lacks ends table
   unfolding sum overwrite
   handing_none = record {
     from_is = omega arith;
@@ -76,7 +76,7 @@ module _ (order dues lacks ends table : List ℕ) (n t next : ℕ) (ahead : t < 
     writes = λ _. record { long = refl; entries = λ s l. absurd (omega arith); elsewhere = λ x o. refl };
   }
 
-  module _ (k from : ℕ) (lacks₁ ends₁ table₁ : List ℕ) (H : Handing-at k from lacks₁ ends₁ table₁) (lk : k < n) (lacks₂ ends₂ table₂ : List ℕ) (r : ℕ) (T : HandedOne order dues lacks₁ ends₁ table₁ k t from next lacks₂ ends₂ table₂ r) where
+  module _ (k from : ℕ) (lacks₁ ends₁ table₁ : List ℕ) (H : HandingAt k from lacks₁ ends₁ table₁) (lk : k < n) (lacks₂ ends₂ table₂ : List ℕ) (r : ℕ) (T : HandedOne order dues lacks₁ ends₁ table₁ k t from next lacks₂ ends₂ table₂ r) where
     lack_same : at lacks₁ k ≡ at lacks k
     lack_same = ap (λ (l : List ℕ). at l k) H.lacks_are ∙ overwrite_kept _ lacks 0 k k (omega arith)
 
@@ -121,7 +121,7 @@ module _ (order dues lacks ends table : List ℕ) (n t next : ℕ) (ahead : t < 
               o;
         }
 
-    pub handing_more : (r ≡ next → ⊥) → Handing-at (k + 1) r lacks₂ ends₂ table₂
+    pub handing_more : (r ≡ next → ⊥) → HandingAt (k + 1) r lacks₂ ends₂ table₂
     unfolding until
     handing_more ne = record {
       from_is = omega (arith, turn_until, ap (sum (at lacks)) (add-one k));
@@ -144,7 +144,7 @@ module _ (order dues lacks ends table : List ℕ) (n t next : ℕ) (ahead : t < 
         behind j a = omega (arith, turn_until, sum_grows (at lacks) (suc k) j (omega arith))
 
   -- All have had their turn: the slices left over stay idle.
-  pub handed_all : (k from : ℕ) (lacks₁ ends₁ table₁ : List ℕ) → k ≡ n → Handing-at k from lacks₁ ends₁ table₁ → HandedOut order dues lacks ends table n t next lacks₁ ends₁ table₁
+  pub handed_all : (k from : ℕ) (lacks₁ ends₁ table₁ : List ℕ) → k ≡ n → HandingAt k from lacks₁ ends₁ table₁ → HandedOut order dues lacks ends table n t next lacks₁ ends₁ table₁
   unfolding GoesTo
   handed_all k from lacks₁ ends₁ table₁ e H = record {
     lacks_are = rw e at H.lacks_are;

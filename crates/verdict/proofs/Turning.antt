@@ -7,13 +7,13 @@ use Rattle.verdict.specs.Walk.{turned_stays, turned_waits, turned_begins}
 
 -- ---- an event
 module _ (periods dues runtimes releases events lacks : List ℕ) (t k : ℕ) where
-  abbrev Turned-to : List ℕ → List ℕ → List ℕ → ℕ → Type 0
-  Turned-to = TurnedOne periods dues runtimes releases events lacks t k
+  abbrev TurnedTo : List ℕ → List ℕ → List ℕ → ℕ → Type 0
+  TurnedTo = TurnedOne periods dues runtimes releases events lacks t k
 
   abbrev release : ℕ
   release = at releases k + at periods k
 
-  pub not_yet : (at events k ≡ t → ⊥) → 0 < at events k → Turned-to releases events lacks (at events k)
+  pub not_yet : (at events k ≡ t → ⊥) → 0 < at events k → TurnedTo releases events lacks (at events k)
   unfolding missing_of event_then release_then lack_then
   not_yet ne p = inr (record {
     some = p;
@@ -29,10 +29,10 @@ module _ (periods dues runtimes releases events lacks : List ℕ) (t k : ℕ) wh
     unfolding missing_of
     missing_here = choose_yes _ _ _ (eq-eqb (at events k) t here)
 
-    pub missed : (at lacks k ≡ 0 → ⊥) → Turned-to releases events lacks 0
+    pub missed : (at lacks k ≡ 0 → ⊥) → TurnedTo releases events lacks 0
     missed nz = inl (record { event_is = refl; wanting = omega (arith, missing_here); short_is = sym missing_here })
 
-    pub shut : at lacks k ≡ 0 → t < release → Turned-to releases (set events k release) lacks release
+    pub shut : at lacks k ≡ 0 → t < release → TurnedTo releases (set events k release) lacks release
     unfolding event_then release_then lack_then
     shut none l = inr (record {
       some = omega arith;
@@ -43,7 +43,7 @@ module _ (periods dues runtimes releases events lacks : List ℕ) (t k : ℕ) wh
       lacks_are = as_it_was lacks k _ (turned_waits release (at events k) t _ _ _ here l);
     })
 
-    pub released : at lacks k ≡ 0 → release ≤ t → 0 < t → Turned-to (set releases k t) (set events k (t + at dues k)) (set lacks k (at runtimes k)) (t + at dues k)
+    pub released : at lacks k ≡ 0 → release ≤ t → 0 < t → TurnedTo (set releases k t) (set events k (t + at dues k)) (set lacks k (at runtimes k)) (t + at dues k)
     unfolding event_then release_then lack_then
     released none l p = inr (record {
       some = omega arith;

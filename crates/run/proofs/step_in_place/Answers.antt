@@ -10,15 +10,6 @@ use Rattle.run.proofs.Served.{deadline_tested, release_tested, renewed_next, lat
 use Rattle.run.proofs.Answers.{Closes, still_closes, Passed, step_not_asked, step_refused, passes, ran_most, used_most, result_of_one, result_lies, closing, length_still, step_done}
 use Rattle.run.proofs.step_in_place.Goals as goal
 
--- What is known once nothing refuses the step.
-passed : (c : tie.Else2 invariant-loop decreases-loop)
-    → Passed (state_of c.before.before.before.before.before.before.before.before.before.before.before.args.periods.now c.before.before.before.before.before.before.before.before.before.before.before.args.deadlines.now c.before.before.before.before.before.before.before.before.before.before.before.args.runtimes.now c.before.before.before.before.before.before.before.before.before.before.before.args.used.now c.before.before.before.before.before.before.before.before.before.before.before.args.ended.now c.before.before.before.before.before.before.before.before.before.before.before.args.count c.before.before.before.before.before.before.before.before.before.before.before.args.cycle c.before.before.before.before.before.before.before.before.before.before.before.args.position c.before.before.before.before.before.before.before.before.before.before.before.args.last c.before.before.before.before.before.before.before.before.before.before.before.args.mode) c.before.before.before.before.before.before.before.before.before.before.before.args.table.now c.before.before.before.before.before.before.before.before.before.before.before.args.clock c.before.before.before.before.before.before.before.before.before.before.before.args.report c.before.before.before.before.before.before.before.before.before.before.before.args.log.now c.before.before.before.before.ask.result.ran
-passed c = passes _ _ _ _ _ _ (c.before.before.before.before.ask.ensures _ _ _ c.before.before.before.before.before.before.before.before.before.before.before.args.last c.before.before.before.before.before.before.jobs-if-sound.ensures) c.before.before.if1.false _ c.before.step-refusal.ensures c.if2.false
-
--- What is known in each turn of the loop.
-held : (c : tie.In-loop invariant-loop decreases-loop) → Closes (state_of c.before.before.before.before.before.before.before.before.before.before.before.before.before.before.before.before.before.before.before.before.before.before.args.periods.now c.before.before.before.before.before.before.before.before.before.before.before.before.before.before.before.before.before.before.before.before.before.before.args.deadlines.now c.before.before.before.before.before.before.before.before.before.before.before.before.before.before.before.before.before.before.before.before.before.before.args.runtimes.now c.before.loop.used c.before.loop.ended c.before.before.before.before.before.before.before.before.before.before.before.before.before.before.before.before.before.before.before.before.before.before.args.count c.before.before.before.before.before.before.before.before.before.before.before.before.before.before.before.before.before.before.before.before.before.before.args.cycle c.before.before.before.before.before.before.before.before.before.before.before.before.before.before.before.before.before.before.before.before.before.before.args.position c.before.before.before.before.before.before.before.before.before.before.before.before.before.before.before.before.before.before.before.before.before.before.args.last Table) c.before.loop.log
-held c = still_closes _ _ _ _ _ _ _ c.before.loop.invariant.0 c.before.loop.invariant.2 c.before.loop.invariant.3
-
 pub ask-asked-requires : goal.ask-asked-requires
 ask-asked-requires c = record { periods = c.args.periods.now; runtimes = c.args.runtimes.now; used = c.args.used.now; is = c.jobs_if_sound-jobs.ensures }
 
@@ -29,55 +20,55 @@ pub returns-then-found-ne0 : goal.returns-then-found-ne0
 returns-then-found-ne0 c = step_refused _ _ _ _ _ _ (c.ask-asked.ensures _ _ _ c.args.last c.jobs_if_sound-jobs.ensures) c.if-asked-ne0.false _ c.step_refusal-found.ensures c.if-found-ne0.true
 
 pub use_slice-in_all-requires : goal.use_slice-in_all-requires
-use_slice-in_all-requires c = let P = passed c in (ran_most _ _ _ _ _ _ P, used_most _ _ _ _ _ _ P)
+use_slice-in_all-requires c = let P = passes _ _ _ _ _ _ (c.ask-asked.ensures _ _ _ c.args.last c.jobs_if_sound-jobs.ensures) c.if-asked-ne0.false _ c.step_refusal-found.ensures c.if-found-ne0.false in (ran_most _ _ _ _ _ _ P, used_most _ _ _ _ _ _ P)
 
 pub result_of-result-requires : goal.result_of-result-requires
-result_of-result-requires c = ran_most _ _ _ _ _ _ (passed c)
+result_of-result-requires c = ran_most _ _ _ _ _ _ (passes _ _ _ _ _ _ (c.ask-asked.ensures _ _ _ c.args.last c.jobs_if_sound-jobs.ensures) c.if-asked-ne0.false _ c.step_refusal-found.ensures c.if-found-ne0.false)
 
 pub mark_result-requires : goal.mark_result-requires
-mark_result-requires c = result_lies _ _ _ _ _ _ (passed c) _ _ c.use_slice-in_all.ensures.1 c.result_of-result.ensures
+mark_result-requires c = result_lies _ _ _ _ _ _ (passes _ _ _ _ _ _ (c.ask-asked.ensures _ _ _ c.args.last c.jobs_if_sound-jobs.ensures) c.if-asked-ne0.false _ c.step_refusal-found.ensures c.if-found-ne0.false) _ _ c.use_slice-in_all.ensures.1 c.result_of-result.ensures
 
 pub end_job-requires : goal.end_job-requires
-end_job-requires c = let P = passed c in
+end_job-requires c = let P = passes _ _ _ _ _ _ (c.ask-asked.ensures _ _ _ c.args.last c.jobs_if_sound-jobs.ensures) c.if-asked-ne0.false _ c.step_refusal-found.ensures c.if-found-ne0.false in
     (ran_most _ _ _ _ _ _ P, result_of_one _ _ _ _ _ _ P _ _ c.use_slice-in_all.ensures.1 c.result_of-result.ensures)
 
 pub loop-i-init : goal.loop-i-init
 unfolding renewed late_up_to overwrite
-loop-i-init c = (closing _ _ _ _ _ _ (passed c) _ _ c.use_slice-in_all.ensures.1 c.result_of-result.ensures _ _ _ c.use_slice-in_all.ensures.0 c.end_job.ensures c.mark_result.ensures, omega arith, refl, refl)
+loop-i-init c = (closing _ _ _ _ _ _ (passes _ _ _ _ _ _ (c.ask-asked.ensures _ _ _ c.args.last c.jobs_if_sound-jobs.ensures) c.if-asked-ne0.false _ c.step_refusal-found.ensures c.if-found-ne0.false) _ _ c.use_slice-in_all.ensures.1 c.result_of-result.ensures _ _ _ c.use_slice-in_all.ensures.0 c.end_job.ensures c.mark_result.ensures, omega arith, refl, refl)
 
 pub offset_bounds-periods-i : goal.offset_bounds-periods-i
-offset_bounds-periods-i c = omega (arith, (held c).count_within)
+offset_bounds-periods-i c = omega (arith, (still_closes _ _ _ _ _ _ _ c.loop-i.invariant.0 c.loop-i.invariant.2 c.loop-i.invariant.3).count_within)
 
 pub bounds-periods-i : goal.bounds-periods-i
-bounds-periods-i c = omega (arith, (held c).count_within)
+bounds-periods-i c = omega (arith, (still_closes _ _ _ _ _ _ _ c.loop-i.invariant.0 c.loop-i.invariant.2 c.loop-i.invariant.3).count_within)
 
 pub nonzero_rem-age : goal.nonzero_rem-age
 unfolding period_of
-nonzero_rem-age c = (held c).period_from _ c.loop-i-test.true
+nonzero_rem-age c = (still_closes _ _ _ _ _ _ _ c.loop-i.invariant.0 c.loop-i.invariant.2 c.loop-i.invariant.3).period_from _ c.loop-i-test.true
 
 pub overflow_add-age : goal.overflow_add-age
-overflow_add-age c = omega (arith, (held c).position_to, div-add-mod' c.args.position (at c.args.periods.now c.loop-i.i))
+overflow_add-age c = omega (arith, (still_closes _ _ _ _ _ _ _ c.loop-i.invariant.0 c.loop-i.invariant.2 c.loop-i.invariant.3).position_to, div-add-mod' c.args.position (at c.args.periods.now c.loop-i.i))
 
 pub offset_bounds-deadlines-i : goal.offset_bounds-deadlines-i
-offset_bounds-deadlines-i c = omega (arith, (held c).count_within)
+offset_bounds-deadlines-i c = omega (arith, (still_closes _ _ _ _ _ _ _ c.loop-i.invariant.0 c.loop-i.invariant.2 c.loop-i.invariant.3).count_within)
 
 pub bounds-deadlines-i : goal.bounds-deadlines-i
-bounds-deadlines-i c = omega (arith, (held c).count_within)
+bounds-deadlines-i c = omega (arith, (still_closes _ _ _ _ _ _ _ c.loop-i.invariant.0 c.loop-i.invariant.2 c.loop-i.invariant.3).count_within)
 
 pub bounds-ended-i : goal.bounds-ended-i
-bounds-ended-i c = omega (arith, (held c).count_within)
+bounds-ended-i c = omega (arith, (still_closes _ _ _ _ _ _ _ c.loop-i.invariant.0 c.loop-i.invariant.2 c.loop-i.invariant.3).count_within)
 
 pub mark_late-requires : goal.mark_late-requires
-mark_late-requires c = let C = held c in (omega (arith, C.count_within), C.within _ c.loop-i-test.true)
+mark_late-requires c = let C = still_closes _ _ _ _ _ _ _ c.loop-i.invariant.0 c.loop-i.invariant.2 c.loop-i.invariant.3 in (omega (arith, C.count_within), C.within _ c.loop-i-test.true)
 
 pub renew_used-requires : goal.renew_used-requires
-renew_used-requires c = omega (arith, (held c).count_within)
+renew_used-requires c = omega (arith, (still_closes _ _ _ _ _ _ _ c.loop-i.invariant.0 c.loop-i.invariant.2 c.loop-i.invariant.3).count_within)
 
 pub renew_ended-requires : goal.renew_ended-requires
-renew_ended-requires c = omega (arith, (held c).count_within)
+renew_ended-requires c = omega (arith, (still_closes _ _ _ _ _ _ _ c.loop-i.invariant.0 c.loop-i.invariant.2 c.loop-i.invariant.3).count_within)
 
 pub overflow_add-i : goal.overflow_add-i
-overflow_add-i c = omega (arith, (held c).count_within)
+overflow_add-i c = omega (arith, (still_closes _ _ _ _ _ _ _ c.loop-i.invariant.0 c.loop-i.invariant.2 c.loop-i.invariant.3).count_within)
 
 pub loop-i-smaller : goal.loop-i-smaller
 loop-i-smaller c = omega arith
@@ -91,8 +82,8 @@ loop-i-preserved c = (
 )
 
 pub shape_of-log : goal.shape_of-log
-shape_of-log c = length_still _ _ _ _ _ _ (passed c) _ _ c.use_slice-in_all.ensures.1 c.result_of-result.ensures _ _ _ c.use_slice-in_all.ensures.0 c.end_job.ensures c.mark_result.ensures _ _ c.loop-i.invariant.3
+shape_of-log c = length_still _ _ _ _ _ _ (passes _ _ _ _ _ _ (c.ask-asked.ensures _ _ _ c.args.last c.jobs_if_sound-jobs.ensures) c.if-asked-ne0.false _ c.step_refusal-found.ensures c.if-found-ne0.false) _ _ c.use_slice-in_all.ensures.1 c.result_of-result.ensures _ _ _ c.use_slice-in_all.ensures.0 c.end_job.ensures c.mark_result.ensures _ _ c.loop-i.invariant.3
 
 pub returns : goal.returns
 returns c = let over : c.loop-i.i ≡ c.args.count = omega arith in
-    step_done _ _ _ _ _ _ (passed c) _ _ c.use_slice-in_all.ensures.1 c.result_of-result.ensures _ _ _ c.use_slice-in_all.ensures.0 c.end_job.ensures c.mark_result.ensures _ _ _ _ over (ap (λ (x : State). x.used) c.loop-i.invariant.2) (ap (λ (x : State). x.ended) c.loop-i.invariant.2) c.loop-i.invariant.3
+    step_done _ _ _ _ _ _ (passes _ _ _ _ _ _ (c.ask-asked.ensures _ _ _ c.args.last c.jobs_if_sound-jobs.ensures) c.if-asked-ne0.false _ c.step_refusal-found.ensures c.if-found-ne0.false) _ _ c.use_slice-in_all.ensures.1 c.result_of-result.ensures _ _ _ c.use_slice-in_all.ensures.0 c.end_job.ensures c.mark_result.ensures _ _ _ _ over (ap (λ (x : State). x.used) c.loop-i.invariant.2) (ap (λ (x : State). x.ended) c.loop-i.invariant.2) c.loop-i.invariant.3

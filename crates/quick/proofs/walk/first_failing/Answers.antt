@@ -3,7 +3,7 @@ use mathlib.Core.Path.{refl}
 use Prim.Native.Nat.{◌-◌}
 use native.Mathlib.Omega.{arith}
 use borrow.Author.Rules.{rules}
-use Rattle.quick.proofs.Walking.{period_pos, Trying, trying_none, first_round, asked_has_room, its_turn, trying_more, first_found, all_pass}
+use Rattle.quick.proofs.Walking.{period_pos, Trying, trying_none, first_round, asked_has_room, its_turn, trying_more, first_found_lem, all_pass}
 use Rattle.quick.proofs.walk.first_failing.Goals as goal
 
 pub loop-k-init : goal.loop-k-init
@@ -55,7 +55,7 @@ try_task-requires c = (
 )
 
 pub returns-in_default : goal.returns-in_default
-returns-in_default c = first_found _ _ _ _ c.requires.0 _ _ _ c.loop-k.invariant c.loop-k-test.true (rw c.in_default.is at c.try_task.ensures)
+returns-in_default c = first_found_lem _ _ _ _ c.requires.0 _ _ _ c.loop-k.invariant c.loop-k-test.true (rw c.in_default.is at c.try_task.ensures)
 
 pub overflow_add-k-in-loop-k : goal.overflow_add-k-in-loop-k
 overflow_add-k-in-loop-k c = omega (arith, c.requires.0.few)

@@ -38,7 +38,7 @@ pub overflow_mul-asked : goal.overflow_mul-asked
 overflow_mul-asked c = omega (arith, more_small _ _ _ _ _ c.requires c.loop-k.k c.jobs_in-jobs.result c.loop-k-test.true (counted _ _ _ _ _ c.requires _ _ c.loop-k-test.true c.jobs_in-jobs.ensures))
 
 pub overflow_add-asked : goal.overflow_add-asked
-overflow_add-asked c = omega (arith, c.requires.few, c.loop-k-test.true, c.loop-k.invariant.1.Asked-is, asked_small _ _ _ _ _ c.requires c.loop-k.k c.loop-k.invariant.0, more_small _ _ _ _ _ c.requires c.loop-k.k c.jobs_in-jobs.result c.loop-k-test.true (counted _ _ _ _ _ c.requires _ _ c.loop-k-test.true c.jobs_in-jobs.ensures))
+overflow_add-asked c = omega (arith, c.requires.few, c.loop-k-test.true, c.loop-k.invariant.1.asked_is, asked_small _ _ _ _ _ c.requires c.loop-k.k c.loop-k.invariant.0, more_small _ _ _ _ _ c.requires c.loop-k.k c.jobs_in-jobs.result c.loop-k-test.true (counted _ _ _ _ _ c.requires _ _ c.loop-k-test.true c.jobs_in-jobs.ensures))
 
 pub overflow_add-k : goal.overflow_add-k
 overflow_add-k c = omega (arith, c.requires.few)
