@@ -1,0 +1,14 @@
+-- `with_tasks` meets its contract: place by place.
+use Prim.Native.Nat.{◌≤◌, ◌-◌}
+use Rattle.checksum.specs.Checksum.{over_tasks}
+use borrow.Author.Rules.{rules}
+use mathlib.Core.Path.{◌≡◌, refl}
+use native.Mathlib.Numerals.{add-one}
+use native.Mathlib.Omega.{arith}
+use Rattle.checksum.proofs.with_tasks.Given as goal
+
+abbrev pub invariant-loop-i : goal.invariant-loop-i
+invariant-loop-i l = (l.i ≤ 16) × (l.sum ≡ over_tasks l.h l.periods l.deadlines l.runtimes l.i)
+
+abbrev pub decreases-loop-i : goal.decreases-loop-i
+decreases-loop-i l = 16 - l.i

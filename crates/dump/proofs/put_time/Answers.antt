@@ -1,0 +1,13 @@
+-- `dump::put_time` meets its contract: the line is put as a text.
+use borrow.Author.Rules.{rules}
+use Rattle.printing.specs.Text.{digit}
+use Rattle.vcd.specs.Form.{time_line}
+use Rattle.dump.proofs.put_time.Goals as goal
+
+pub put_text-requires : goal.put_text-requires
+unfolding time_line digit
+put_text-requires c = c.requires
+
+pub returns : goal.returns
+unfolding time_line digit
+returns c = c.put_text.ensures
