@@ -1,0 +1,10 @@
+-- `readback::shared` meets its contract: the first i bytes agree.
+use Rattle.std.proofs.Common.{◌-◌, length, sym, ◌∙◌, arith, rules}
+use Rattle.readback.proofs.Bytes.{Agree, agree_none, agree_more, agree_cut, agree_whole}
+use Rattle.readback.proofs.shared.Given as goal
+
+abbrev pub invariant-loop-i : goal.invariant-loop-i
+invariant-loop-i l = Agree l.text l.file l.i
+
+abbrev pub decreases-loop-i : goal.decreases-loop-i
+decreases-loop-i l = length l.text - l.i
