@@ -18,7 +18,7 @@ pub loop-p-preserved : goal.loop-p-preserved
 loop-p-preserved c = 
     let slice = c.close_slice-next in
     let held = c.loop-p.invariant in
-    (omega arith, held.1, one_more_slice _ _ _ _ _ _ held.2 slice.ensures.after, slice.auto.1.1.1.0 ∙ held.3, slice.auto.1.1.1.1.0 ∙ held.4)
+    (omega arith, held.1, one_more_slice _ _ _ _ _ _ held.2 slice.ensures.after, search rules, search rules)
 
 pub shape_of-log : goal.shape_of-log
 shape_of-log c = c.loop-p.invariant.3

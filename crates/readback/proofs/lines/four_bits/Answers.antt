@@ -16,4 +16,4 @@ pub overflow_cast-result-2 : goal.overflow_cast-result-2
 overflow_cast-result-2 c = omega arith
 
 pub returns : goal.returns
-returns c = bits_read _ _ (omega arith) c.wrapping_sub_u32-bits.ensures c.if-others-ne0.false
+returns c = bits_read _ _ (omega arith) c.wrapping_sub_u32-bits.ensures.value c.if-others-ne0.false

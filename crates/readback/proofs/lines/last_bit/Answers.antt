@@ -4,4 +4,4 @@ use Rattle.readback.proofs.Words.{last_read}
 use Rattle.readback.proofs.lines.last_bit.Goals as goal
 
 pub returns : goal.returns
-returns c = last_read _ _ (omega arith) c.wrapping_sub_u32.ensures
+returns c = last_read _ _ (omega arith) c.wrapping_sub_u32.ensures.value

@@ -1,0 +1,14 @@
+-- `viewer::fit` meets its contract.
+use mathlib.Core.Path.{refl}
+use borrow.Author.Rules.{rules}
+use Rattle.basis.specs.Choose.{cases}
+use Rattle.viewer.specs.Shapes.{fitting}
+use Rattle.viewer.proofs.fit.Goals as goal
+
+pub returns-then-length-room : goal.returns-then-length-room
+unfolding fitting
+returns-then-length-room c = search cases depth 12
+
+pub returns-else-length-room : goal.returns-else-length-room
+unfolding fitting
+returns-else-length-room c = search cases depth 12
