@@ -1,2 +1,0 @@
--- What the walks by hand share.
-pub mod Viewing

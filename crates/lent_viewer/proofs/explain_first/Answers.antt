@@ -1,0 +1,11 @@
+-- `lent_viewer::explain_first` meets its contract: the records that are lent make the list of the first so many places.
+use Rattle.std.proofs.Common.{◌≡◌, length, rules, subst}
+use Rattle.tasks.specs.declared.TaskList.{TaskList}
+use Rattle.viewer.specs.Viewer.{ExplainsFile}
+use Rattle.lent.specs.Shapes.{filled_first}
+use Rattle.lent_viewer.proofs.explain_first.Goals as goal
+
+pub returns : goal.returns
+returns c =
+    let all : length c.args.tasks ≡ 16 = search rules in
+    subst (λ (l : TaskList). ExplainsFile l c.args.supply c.args.file.now c.args.needs.now c.explain_lent.new.needs c.explain_lent.result) (filled_first c.args.tasks c.args.count all c.requires) c.explain_lent.ensures
