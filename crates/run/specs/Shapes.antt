@@ -67,8 +67,8 @@ used_one ran used = choose (ran == 0) used (slice_set used (ran - 1) (at used (r
 
 -- The byte of its result, 0 for none, where it is written, and the jobs that have ended.
 unfoldable pub result_byte : List ℕ → ℕ → ℕ → ℕ → ℕ
-result_byte runtimes ran in_all report =
-    choose (ran == 0) 0 (choose (report == 1) 1 (choose (in_all == at runtimes (ran - 1)) 2 0))
+result_byte runtimes ran total report =
+    choose (ran == 0) 0 (choose (report == 1) 1 (choose (total == at runtimes (ran - 1)) 2 0))
 
 unfoldable pub result_put : List ℕ → ℕ → ℕ → List ℕ
 result_put log at_place result = choose (result == 0) log (slice_set log at_place result)
