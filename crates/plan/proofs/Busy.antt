@@ -7,7 +7,8 @@ use Prim.Native.Nat.{ℕ, zero, suc, pred, ◌+◌, ◌-◌, ◌*◌, ◌≤◌,
 use native.Mathlib.Omega.{arith}
 use Rattle.std.proofs.Math.Nat.{mul-le-mul_left, mul-add, mul-zero}
 use Rattle.basis.specs.Choose.{le_or_lt, eq_or_ne}
-use Rattle.basis.specs.Slices.{ceil, ceil_zero, ceil_suc, ceil_sum}
+use Rattle.basis.specs.Slices.{ceil}
+use Rattle.basis.proofs.Slices.{ceil_zero, ceil_suc, ceil_sum}
 use Rattle.plan.specs.Plan.{Plan, Monotonic, Demand, job, age, key_in, gets, entry, asks, IsFirst}
 use Rattle.plan.proofs.Rank.{same_law}
 use Rattle.plan.specs.Work.{before, after}

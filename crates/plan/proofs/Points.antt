@@ -11,7 +11,8 @@ use Rattle.std.proofs.Math.Nat.{add-suc, div-add-mod', mod-lt}
 use Rattle.std.proofs.Math.Dec.{leb, eqb}
 use borrow.Author.Tests.{le-leb, leb-true, eq-eqb, eqb-true}
 use Rattle.basis.specs.Choose.{choose, choose_yes, choose_no, bool_cases, both_true, either_false, eq_or_ne, below_suc}
-use Rattle.basis.specs.Slices.{ceil, ceil_suc, ceil_between, mod_next}
+use Rattle.basis.specs.Slices.{ceil}
+use Rattle.basis.proofs.Slices.{ceil_suc, ceil_between, mod_next}
 use Rattle.basis.specs.Sum.{sum_ext}
 use Rattle.plan.specs.Plan.{Plan, Sound, key_in, ranks_before, asks, bound, Passes, IsFirst, NoneWants, FirstTask}
 use Rattle.plan.proofs.Rank.{first_law}

@@ -8,7 +8,7 @@ use Rattle.std.proofs.Math.ListN.{length-replicate, get_or-replicate, get_or-eq_
 use Rattle.basis.specs.Bytes.{overwrite-length, overwrite_at}
 use Rattle.basis.specs.Choose.{choose, choose_yes, choose_no, le_or_lt, eq_or_ne}
 use Rattle.basis.specs.Sum.{sum}
-use Rattle.basis.specs.Slices.{div_at, mod_at, div_same, mod_same, div_next, mod_next}
+use Rattle.basis.proofs.Slices.{div_at, mod_at, div_same, mod_same, div_next, mod_next}
 use Rattle.plan.specs.Plan.{Plan, Sound, Demand, release, job, age, key_in, wants, pick, gets, had_after, had_all, had, entry, given, IsFirst}
 use Rattle.plan.proofs.Rank.{first_law}
 use Rattle.plan.proofs.Work.{gets_cases, got_wants}

@@ -12,7 +12,7 @@ use Rattle.std.proofs.Math.Dec.{leb}
 use borrow.Author.Tests.{le-leb, lt-leb, ne_eqb}
 use Rattle.basis.specs.Choose.{choose, choose_yes, choose_no, choose_either, bool_cases, eq_or_ne, below_suc}
 use Rattle.basis.specs.Bytes.{at}
-use Rattle.basis.specs.Slices.{div_same, div_next, mod_same}
+use Rattle.basis.proofs.Slices.{div_same, div_next, mod_same}
 use Rattle.basis.specs.Sum.{sum, sum_ext, sum_le, sum_more_at}
 use Rattle.plan.specs.Plan.{Plan, Sound, key_in, ranks_before, bound, IsFirst, NoneWants, FirstTask}
 use Rattle.plan.proofs.Rank.{first_law}

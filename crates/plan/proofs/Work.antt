@@ -8,7 +8,7 @@ use Rattle.std.proofs.Math.Nat.{suc_inj}
 use borrow.Author.Tests.{lt-ltb, le-ltb, ltb-false, eq-eqb, ne_eqb}
 use Rattle.basis.specs.Choose.{choose, choose_yes, choose_no, le_or_lt, eq_or_ne, ltb_same}
 use Rattle.basis.specs.Sum.{sum, sum_zero, sum_ext, sum_le, sum_add, sum_more_at}
-use Rattle.basis.specs.Slices.{mod_at}
+use Rattle.basis.proofs.Slices.{mod_at}
 use Rattle.plan.specs.Plan.{gets, IsFirst, NoneWants, FirstTask}
 use Rattle.plan.specs.Rank.{rank}
 use Rattle.plan.proofs.Rank.{rank_tells}

@@ -11,7 +11,7 @@ use Rattle.std.proofs.Math.Dec.{leb}
 use borrow.Author.Tests.{leb-true}
 use Rattle.basis.specs.Choose.{bool_cases}
 use Rattle.basis.specs.Answer.{Answer, refusal, none}
-use Rattle.basis.specs.Slices.{mod_at}
+use Rattle.basis.proofs.Slices.{mod_at}
 use Rattle.plan.specs.Plan.{Plan, Sound, bound, Passes}
 use Rattle.plan.specs.ExactTest.{AllPass, FirstFailing}
 use Rattle.plan.proofs.ExactTest.{fails_first_alone}

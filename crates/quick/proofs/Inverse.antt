@@ -4,7 +4,8 @@ use Prim.Native.Nat.{ℕ, zero, suc, ◌+◌, ◌-◌, ◌*◌, ◌/◌, ◌≤�
 use native.Mathlib.Omega.{arith}
 use native.Mathlib.Numerals.{add-one}
 use native.Mathlib.Nat.{mul-le-mul, mul-le-mul_left, mul-le-mul_right, mul_assoc, mul-add, mul_comm, div-add-mod', div-mul-le_self, lt-div-mul-add}
-use Rattle.basis.specs.Slices.{ceil, div_at, ceil_suc, ceil_covers, ceil_least}
+use Rattle.basis.specs.Slices.{ceil}
+use Rattle.basis.proofs.Slices.{div_at, ceil_suc, ceil_covers, ceil_least}
 use Rattle.quick.specs.Shapes.{inverse_of}
 
 -- ---- division rounded up

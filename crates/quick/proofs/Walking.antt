@@ -13,7 +13,8 @@ use lib.Seq.{get_or-set_same, get_or-set_other}
 use borrow.Author.Tests.{lt-ltb, ltb-true, leb-true, leb-false}
 use Rattle.basis.specs.Bytes.{at}
 use Rattle.basis.specs.Choose.{both_true, both_false, le_or_lt, below_suc}
-use Rattle.basis.specs.Slices.{ceil, ceil_suc, ceil_covers, ceil_least, ceil_grows, ceil_between}
+use Rattle.basis.specs.Slices.{ceil}
+use Rattle.basis.proofs.Slices.{ceil_suc, ceil_covers, ceil_least, ceil_grows, ceil_between}
 use Rattle.basis.specs.Sum.{sum, sum_ext, sum_le, sum_same, sum_mul}
 use Rattle.quick.specs.declared.walk.Walk.{Walk}
 use Rattle.quick.specs.declared.walk.Trial.{Trial}

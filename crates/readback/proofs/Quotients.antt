@@ -1,7 +1,7 @@
 -- The two kinds of lines, digit by digit: which quotients the numbers of a kind have.
 use Rattle.std.proofs.Common.{◌≡◌, ℕ, ◌+◌, ◌*◌, ◌/◌, ◌<◌, ◌≤◌, ap, ◌∙◌, ⊎_elim, mul-le-mul_right, div-lt_iff_lt-mul, le_antisymm, div-le_self, div-mul-le_self, arith}
 use Rattle.basis.specs.Choose.{eq_or_ne, le_or_lt}
-use Rattle.basis.specs.Slices.{div_at}
+use Rattle.basis.proofs.Slices.{div_at}
 use Rattle.readback.specs.Shapes.{Allowed, IsTime, IsOther, Top}
 
 -- A greater number has no smaller quotient.

@@ -2,7 +2,7 @@
 use Rattle.std.proofs.Common.{◌≡◌, ℕ, suc, ◌+◌, ◌-◌, ◌*◌, ◌/◌, ◌%◌, ◌<◌, ◌≤◌, List, sym, refl, ap, ◌∙◌, subst, ⊎_elim, mod-lt, div-add-mod', div-one, arith}
 use native.Mathlib.Nat.{div-div-eq-div-mul}
 use Rattle.basis.specs.Choose.{eq_or_ne}
-use Rattle.basis.specs.Slices.{div_at}
+use Rattle.basis.proofs.Slices.{div_at}
 use Rattle.readback.specs.declared.lines.Line.{Line}
 use Rattle.readback.specs.Shapes.{byte_at, place, Same, ByteRead, Allowed, Longer, DigitRead, Goes, Cut, Reading}
 

@@ -1,7 +1,7 @@
 -- Numbers of four bytes, as the code makes them of four digits and takes them apart.
 use Rattle.std.proofs.Common.{◌≡◌, ℕ, ◌+◌, ◌*◌, ◌/◌, ◌%◌, ◌^◌, ◌<◌, ◌≤◌, sym, ap, ◌∙◌, mod-lt, mod-eq_of_lt, div-add-mod', arith}
 use lib.Bits.{bit_and, and_block, and_high}
-use Rattle.basis.specs.Slices.{div_at, mod_at}
+use Rattle.basis.proofs.Slices.{div_at, mod_at}
 use Rattle.printing.specs.Text.{digit}
 use Rattle.readback.specs.Shapes.{word, FourBits, FourDigits, LastBit}
 

@@ -6,7 +6,7 @@ use Rattle.std.proofs.Math.Bool.{or-false}
 use Rattle.std.proofs.Math.Logic.{⊎_elim}
 use Rattle.std.proofs.Math.Nat.{mod-lt}
 use borrow.Author.Tests.{eqb-false, eq-eqb, ne_eqb}
-use Rattle.basis.specs.Slices.{mod_same, mod_next}
+use Rattle.basis.proofs.Slices.{mod_same, mod_next}
 use Rattle.basis.specs.Choose.{choose, choose_yes, choose_no, bool_cases, eq_or_ne, either_false}
 use Rattle.basis.specs.Bytes.{overwrite-length, overwrite_at}
 use Rattle.run.specs.declared.State.{State}

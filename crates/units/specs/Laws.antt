@@ -4,7 +4,8 @@ use Rattle.std.proofs.Common.{inl, inr, ⊎_elim, arith, div-add-mod', mul-le-mu
 use Rattle.std.proofs.Math.Nat.{div-eq_of_eq-mul_left, mul-mod_left, mul-sub}
 use Rattle.std.proofs.lemmas.Bool.{lt-leb}
 use Rattle.basis.specs.Choose.{choose, eq_or_ne}
-use Rattle.basis.specs.Slices.{ceil, ceil_covers, ceil_least}
+use Rattle.basis.specs.Slices.{ceil}
+use Rattle.basis.proofs.Slices.{ceil_covers, ceil_least}
 use Rattle.units.specs.declared.Slices.TheVariants.{Count, Refused}
 use Rattle.units.specs.Conversion.{runtime_slices, period_slices, deadline_slices, slices_of}
 

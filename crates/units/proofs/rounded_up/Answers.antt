@@ -5,7 +5,8 @@ use Prim.Native.Nat.{ℕ, suc, ◌+◌, ◌-◌, ◌*◌, ◌/◌, ◌%◌, ◌�
 use native.Mathlib.Omega.{arith}
 use native.Mathlib.Nat.{div-add-mod', mod-lt, mul-le-mul_left}
 use borrow.Author.Rules.{rules}
-use Rattle.basis.specs.Slices.{ceil, div_at}
+use Rattle.basis.specs.Slices.{ceil}
+use Rattle.basis.proofs.Slices.{div_at}
 use Rattle.units.proofs.rounded_up.Goals as goal
 
 module _ (t T : ℕ) (pos : 0 < T) where

@@ -5,7 +5,7 @@ use native.Mathlib.Omega.{arith}
 use native.Mathlib.Numerals.{add-one}
 use native.Mathlib.Nat.{div-le_self}
 use borrow.Author.Rules.{rules}
-use Rattle.basis.specs.Slices.{ceil_suc}
+use Rattle.basis.proofs.Slices.{ceil_suc}
 use Rattle.quick.specs.Shapes.{inverse_of}
 use Rattle.quick.proofs.walk.inverse_of.Goals as goal
 
