@@ -13,7 +13,8 @@ use Rattle.plan.specs.Order.{FirstIn}
 use Rattle.tasks.specs.declared.TaskList.{TaskList}
 use Rattle.tasks.specs.List.{plan_of}
 use Rattle.tasks.specs.Bounds.{cycle_of}
-use Rattle.tasks.specs.Kept.{KeepsBounds, plan_sound, period_divides_cycle}
+use Rattle.tasks.specs.Kept.{KeepsBounds}
+use Rattle.tasks.proofs.Kept.{plan_sound, period_divides_cycle}
 use Rattle.ranking.specs.Ranks.{Ranks, Shows, ranked_shows}
 use Rattle.explain.specs.Shapes.{SeenRun, Leads, CanGoBack, Back, waits_at, CanWait}
 use Rattle.explain.proofs.Agreeing.{Agrees, given_fits, agreeing_explains, explained_agrees}

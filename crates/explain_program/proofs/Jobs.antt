@@ -13,7 +13,8 @@ use Rattle.tasks.specs.List.{task_at}
 use Rattle.tasks.specs.Bounds.{cycle_of, job_sum, jobs_of, bounds_of}
 use Rattle.tasks.specs.declared.Bounds.{Bounds}
 use Rattle.tasks.specs.declared.Bounds.TheVariants.{Kept, Broken}
-use Rattle.tasks.specs.Kept.{KeepsBounds, bounds_kept}
+use Rattle.tasks.specs.Kept.{KeepsBounds}
+use Rattle.tasks.proofs.Kept.{bounds_kept}
 use Rattle.printing.specs.Text.{needs_header, job_records, need_records, needs_text}
 use Rattle.printing.specs.Written.{Written}
 use Rattle.output.specs.Explain.{jobs_in}

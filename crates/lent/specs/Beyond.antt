@@ -24,7 +24,7 @@ use Rattle.tasks.specs.declared.Bounds.TheVariants.{Kept, Broken}
 use Rattle.tasks.specs.List.{task_at, plan_of}
 use Rattle.tasks.specs.Euclid.{lcm_of}
 use Rattle.tasks.specs.Bounds.{multiple, memory_sum, job_sum, cycle_of, jobs_of, of_count, of_numbers, of_task, of_memory, of_cycle, found, answer, bounds_of}
-use Rattle.tasks.specs.Kept.{kept_tells}
+use Rattle.tasks.proofs.Kept.{kept_tells}
 use Rattle.quick.specs.Quick.{tried, quick_from, quick_of}
 use Rattle.verdict.specs.declared.Late.{Late}
 use Rattle.verdict.specs.declared.Verdict.TheVariants.{Accepted, Refused}

@@ -17,7 +17,8 @@ use Rattle.tasks.specs.declared.Task.{Task}
 use Rattle.tasks.specs.declared.TaskList.{TaskList}
 use Rattle.tasks.specs.List.{task_at, plan_of}
 use Rattle.tasks.specs.Bounds.{cycle_of, job_sum, jobs_of}
-use Rattle.tasks.specs.Kept.{KeepsBounds, broken_tells, plan_sound, cycle_pos, period_divides_cycle}
+use Rattle.tasks.specs.Kept.{KeepsBounds}
+use Rattle.tasks.proofs.Kept.{broken_tells, plan_sound, cycle_pos, period_divides_cycle}
 use Rattle.verdict.specs.declared.Verdict.{Verdict}
 use Rattle.verdict.specs.Verdict.{verdict_of, verdict_answer}
 use Rattle.start.specs.declared.Asked.{Asked}

@@ -10,9 +10,10 @@ use Rattle.basis.specs.Choose.{choose_yes, choose_either, eq_or_ne, le_or_lt}
 use Rattle.basis.specs.Answer.{Answer, refusal, clash, none, ◌or_else◌, first_found, else_found, else_kept, first_is, found_none}
 use Rattle.tasks.specs.declared.TaskList.{TaskList}
 use Rattle.tasks.specs.List.{task_at}
-use Rattle.tasks.specs.Euclid.{lcm_is_least}
+use Rattle.tasks.proofs.Euclid.{lcm_is_least}
 use Rattle.tasks.specs.Bounds.{multiple, of_task, of_cycle, found, bounds_of, bounds_answer}
-use Rattle.tasks.specs.Kept.{PeriodsPos, UpTo, one_test_none, multiple_pos, period_divides, multiple_least, tasks_none, count_most, tasks_most, memory_most, found_most, bounds_kept, bounds_found, broken_tells, nothing_found}
+use Rattle.tasks.specs.Kept.{UpTo}
+use Rattle.tasks.proofs.Kept.{PeriodsPos, one_test_none, multiple_pos, period_divides, multiple_least, tasks_none, count_most, tasks_most, memory_most, found_most, bounds_kept, bounds_found, broken_tells, nothing_found}
 use Rattle.verdict.specs.declared.Verdict.{Verdict}
 use Rattle.verdict.specs.declared.Verdict.TheVariants as verdict
 use Rattle.verdict.specs.Verdict.{verdict_of, verdict_answer}

@@ -36,10 +36,10 @@ use Rattle.units.specs.declared.Slices.{Slices}
 use Rattle.units.specs.declared.Slices.TheVariants.{Count}
 use Rattle.units.specs.declared.Slices.TheVariants as slices
 use Rattle.units.specs.Conversion.{runtime_slices, period_slices, slices_of, slices_answer, deadline_slices}
-use Rattle.units.specs.Laws.{runtime_fewest, larger_tick_no_fewer, without_tick, period_accepted, deadline_latest}
+use Rattle.units.proofs.Laws.{runtime_fewest, larger_tick_no_fewer, without_tick, period_accepted, deadline_latest}
 use Rattle.readings.specs.declared.Entry.TheVariants.{NoEntry}
 use Rattle.readings.specs.Reading.{entry_of}
-use Rattle.readings.specs.Laws.{reads_no_entry, idle_read, task_read, no_entry_read, entry_byte_lem, refusal_number_lem, logged_byte_lem, reads_results, done_is_one}
+use Rattle.readings.proofs.Laws.{reads_no_entry, idle_read, task_read, no_entry_read, entry_byte_lem, refusal_number_lem, logged_byte_lem, reads_results, done_is_one}
 use Rattle.bench.specs.Drive.{task_in}
 use Rattle.promises.specs.Begun.{all_alike, start_accepted, start_period, start_runtime, start_job, start_due}
 use Rattle.promises.specs.RefusalsHold.{bounds_go, list_goes, build_goes, start_goes, who_goes, step_goes, runtime_goes, period_goes, deadline_goes}

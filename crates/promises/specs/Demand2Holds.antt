@@ -22,7 +22,8 @@ use Rattle.tasks.specs.declared.TaskList.{TaskList}
 use Rattle.tasks.specs.declared.Bounds.TheVariants.{Kept, Broken}
 use Rattle.tasks.specs.List.{plan_of}
 use Rattle.tasks.specs.Bounds.{cycle_of, jobs_of}
-use Rattle.tasks.specs.Kept.{KeepsBounds, bounds_kept, plan_sound, plan_monotonic, period_within_cycle, period_divides_cycle}
+use Rattle.tasks.specs.Kept.{KeepsBounds}
+use Rattle.tasks.proofs.Kept.{bounds_kept, plan_sound, plan_monotonic, period_within_cycle, period_divides_cycle}
 use Rattle.verdict.specs.declared.Verdict.{Verdict}
 use Rattle.verdict.specs.declared.Verdict.TheVariants.{Accepted, Refused}
 use Rattle.verdict.specs.Lateness.{received, missing, missed_at}

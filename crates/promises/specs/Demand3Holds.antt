@@ -19,7 +19,7 @@ use Rattle.plan.proofs.Domination.{on_time_before, filling_ends_no_later, lower_
 use Rattle.tasks.specs.declared.TaskList.{TaskList}
 use Rattle.tasks.specs.List.{plan_of}
 use Rattle.tasks.specs.Bounds.{cycle_of, jobs_of}
-use Rattle.tasks.specs.Kept.{plan_sound, cycle_pos, period_divides_cycle}
+use Rattle.tasks.proofs.Kept.{plan_sound, cycle_pos, period_divides_cycle}
 use Rattle.run.specs.declared.Mode.TheVariants.{Table, Filling}
 use Rattle.run.specs.declared.State.{State}
 use Rattle.run.specs.declared.Closed.{Closed}

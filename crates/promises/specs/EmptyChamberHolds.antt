@@ -10,7 +10,7 @@ use Rattle.plan.specs.Plan.{Sound, deadline}
 use Rattle.tasks.specs.declared.TaskList.{TaskList}
 use Rattle.tasks.specs.List.{plan_of}
 use Rattle.tasks.specs.Bounds.{cycle_of}
-use Rattle.tasks.specs.Kept.{plan_sound}
+use Rattle.tasks.proofs.Kept.{plan_sound}
 use Rattle.start.specs.Start.{mode_of}
 use Rattle.run.specs.declared.State.{State}
 use Rattle.run.specs.declared.Closed.{Closed}

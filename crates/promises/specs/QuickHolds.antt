@@ -22,7 +22,8 @@ use Rattle.tasks.specs.declared.Bounds.{Bounds}
 use Rattle.tasks.specs.declared.Bounds.TheVariants.{Kept, Broken}
 use Rattle.tasks.specs.List.{task_at, plan_of}
 use Rattle.tasks.specs.Bounds.{bounds_of}
-use Rattle.tasks.specs.Kept.{KeepsBounds, plan_sound, kept_tells, broken_tells}
+use Rattle.tasks.specs.Kept.{KeepsBounds}
+use Rattle.tasks.proofs.Kept.{plan_sound, kept_tells, broken_tells}
 use Rattle.verdict.specs.declared.Verdict.{Verdict}
 use Rattle.verdict.specs.Verdict.{verdict_from, verdict_of, verdict_answer}
 use Rattle.verdict.specs.Answers.{ByBounds, ForLateness, OnTimeAll, verdict_tells}

@@ -18,7 +18,8 @@ use Rattle.tasks.specs.declared.Task.{Task}
 use Rattle.tasks.specs.declared.TaskList.{TaskList}
 use Rattle.tasks.specs.List.{task_at, plan_of}
 use Rattle.tasks.specs.Bounds.{multiple, memory_sum, cycle_of, jobs_of, of_count, of_numbers, of_task, of_memory, of_cycle, found, bounds_of, bounds_answer}
-use Rattle.tasks.specs.Kept.{TaskFits, one_test_none, tasks_none, nothing_found, bounds_kept, bounds_found}
+use Rattle.tasks.specs.Kept.{TaskFits}
+use Rattle.tasks.proofs.Kept.{one_test_none, tasks_none, nothing_found, bounds_kept, bounds_found}
 use Rattle.verdict.specs.declared.Verdict.{Verdict}
 use Rattle.verdict.specs.declared.Verdict.TheVariants as verdict
 use Rattle.verdict.specs.Verdict.{verdict_from, verdict_of, verdict_answer}
@@ -37,7 +38,7 @@ use Rattle.run.specs.Who.{running, of9, of10, of11_by, of11, who_found, of_entry
 use Rattle.run.specs.Step.{of12, next_clock, of13, of14, step_found, Stepped, closed_answer, closed_number}
 use Rattle.units.specs.declared.Slices.TheVariants.{Count, Refused as NoSlices}
 use Rattle.units.specs.Conversion.{runtime_slices, period_slices, slices_answer, deadline_slices}
-use Rattle.units.specs.Laws.{period_accepted, period_refused}
+use Rattle.units.proofs.Laws.{period_accepted, period_refused}
 use Rattle.promises.specs.Demand2.{FirstLate}
 use Rattle.promises.specs.Demand2Holds.{not_by_bounds, accepted_exactly, late_named}
 use Rattle.promises.specs.Refusals.{no_tasks, more_than_16, FirstWith, PeriodOutside, RuntimeOutside, DeadlineOutside, period_outside, runtime_outside, deadline_outside, FirstAbove, memory_exceeds, cycle_above, deadline_missed, table_short, log_short_for, bounds_rules, list_rules, build_rules, start_rules, Follows, one_more, wraps, not_sound, run_over, no_entry_rule, log_short, clock_wrong, report_wrong, who_rules, step_rules, no_share, not_whole, no_length}

@@ -19,7 +19,7 @@ use Rattle.needs.specs.Candidate.{entry_by_released, released_within, only_candi
 use Rattle.tasks.specs.declared.TaskList.{TaskList}
 use Rattle.tasks.specs.List.{plan_of}
 use Rattle.tasks.specs.Bounds.{cycle_of, job_sum, jobs_of}
-use Rattle.tasks.specs.Kept.{plan_sound, cycle_pos, period_divides_cycle}
+use Rattle.tasks.proofs.Kept.{plan_sound, cycle_pos, period_divides_cycle}
 use Rattle.verdict.specs.declared.Verdict.{Verdict}
 use Rattle.verdict.specs.declared.Verdict.TheVariants.{Accepted, Refused as Judged}
 use Rattle.verdict.specs.Verdict.{verdict_of, verdict_answer}

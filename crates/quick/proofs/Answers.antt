@@ -20,7 +20,8 @@ use Rattle.tasks.specs.declared.TaskList.{TaskList}
 use Rattle.tasks.specs.declared.Bounds.TheVariants.{Kept, Broken}
 use Rattle.tasks.specs.List.{plan_of}
 use Rattle.tasks.specs.Bounds.{bounds_of, cycle_of}
-use Rattle.tasks.specs.Kept.{Bounded, plan_sound, plan_monotonic, cycle_pos, period_divides_cycle, kept_tells}
+use Rattle.tasks.specs.Kept.{Bounded}
+use Rattle.tasks.proofs.Kept.{plan_sound, plan_monotonic, cycle_pos, period_divides_cycle, kept_tells}
 use Rattle.ranking.specs.Ranks.{Ranks, Shows, ranked_shows}
 use Rattle.quick.specs.declared.Quick.{Quick}
 use Rattle.quick.specs.declared.Quick.TheVariants.{Accepted, Refused}

@@ -5,7 +5,7 @@ use Rattle.basis.specs.Choose.{choose, choose_yes, choose_no, bool_cases}
 use Rattle.basis.specs.Answer.{refusal, none_number, number_if, number_unless}
 use Rattle.readings.specs.declared.Entry.TheVariants.{Idle, Task, NoEntry}
 use Rattle.readings.specs.Reading.{entry_of}
-use Rattle.readings.specs.Laws.{idle_read, task_read, no_entry_read}
+use Rattle.readings.proofs.Laws.{idle_read, task_read, no_entry_read}
 use Rattle.run.specs.declared.ask.Asked.{Asked}
 use Rattle.run.specs.declared.Mode.{Mode}
 use Rattle.run.specs.declared.Mode.TheVariants.{Table, Filling}

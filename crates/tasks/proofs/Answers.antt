@@ -15,7 +15,8 @@ use Rattle.tasks.specs.declared.Multiple.TheVariants.{Reached, GivenUp}
 use Rattle.tasks.specs.declared.Task.{Task}
 use Rattle.tasks.specs.declared.Bounds.TheVariants.{Kept, Broken}
 use Rattle.tasks.specs.Bounds.{cycle_of, jobs_of, of_count, of_task, of_memory, of_cycle, found, answer, bounds_of}
-use Rattle.tasks.specs.Kept.{AllFit, of_count_none, tasks_none, nothing_found, bounds_kept}
+use Rattle.tasks.specs.Kept.{AllFit}
+use Rattle.tasks.proofs.Kept.{of_count_none, tasks_none, nothing_found, bounds_kept}
 use Rattle.tasks.specs.Shapes.{as_answer, Finds, reached_or, multiplied}
 use Rattle.tasks.proofs.Steps.{still_first}
 

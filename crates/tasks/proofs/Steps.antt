@@ -15,7 +15,7 @@ use Rattle.tasks.specs.List.{task_at}
 use Rattle.tasks.specs.Euclid.{lcm_of}
 use Rattle.tasks.specs.declared.Multiple.TheVariants.{Reached, GivenUp}
 use Rattle.tasks.specs.Bounds.{of_cycle, of_numbers, of_task, multiple, memory_sum, job_sum}
-use Rattle.tasks.specs.Kept.{one_test_none}
+use Rattle.tasks.proofs.Kept.{one_test_none}
 use Rattle.tasks.specs.Shapes.{as_answer, Finds, reached_or, multiplied}
 
 -- ---- a search that stops at the first it finds

@@ -6,7 +6,8 @@ use Rattle.plan.specs.Plan.{table}
 use Rattle.tasks.specs.declared.TaskList.{TaskList}
 use Rattle.tasks.specs.List.{plan_of}
 use Rattle.tasks.specs.Bounds.{cycle_of, bounds_of}
-use Rattle.tasks.specs.Kept.{Bounded, kept_tells}
+use Rattle.tasks.specs.Kept.{Bounded}
+use Rattle.tasks.proofs.Kept.{kept_tells}
 use Rattle.ranking.specs.Ranks.{Ranks, ranked_shows}
 use Rattle.verdict.specs.Lateness.{lateness}
 use Rattle.verdict.specs.Walk.{Shown}

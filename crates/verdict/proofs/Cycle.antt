@@ -14,7 +14,8 @@ use Rattle.plan.proofs.Events.{event_open, event_later, event_by_release, goes_t
 use Rattle.tasks.specs.declared.TaskList.{TaskList}
 use Rattle.tasks.specs.List.{plan_of}
 use Rattle.tasks.specs.Bounds.{cycle_of}
-use Rattle.tasks.specs.Kept.{Bounded, plan_monotonic, period_divides_cycle, period_within_cycle}
+use Rattle.tasks.specs.Kept.{Bounded}
+use Rattle.tasks.proofs.Kept.{plan_monotonic, period_divides_cycle, period_within_cycle}
 use Rattle.ranking.specs.Ranks.{Shows}
 use Rattle.verdict.specs.declared.Late.{Late}
 use Rattle.verdict.specs.declared.walk.Turned.{Turned}

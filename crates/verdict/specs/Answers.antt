@@ -12,7 +12,8 @@ use Rattle.tasks.specs.declared.Bounds.{Bounds}
 use Rattle.tasks.specs.declared.Bounds.TheVariants.{Kept, Broken}
 use Rattle.tasks.specs.List.{plan_of}
 use Rattle.tasks.specs.Bounds.{bounds_of, bounds_answer, found, cycle_of, jobs_of}
-use Rattle.tasks.specs.Kept.{KeepsBounds, bounds_kept, bounds_broken, bounds_found, kept_tells, broken_tells, broken_not_7, plan_monotonic}
+use Rattle.tasks.specs.Kept.{KeepsBounds}
+use Rattle.tasks.proofs.Kept.{bounds_kept, bounds_broken, bounds_found, kept_tells, broken_tells, broken_not_7, plan_monotonic}
 use Rattle.verdict.specs.declared.Verdict.{Verdict}
 use Rattle.verdict.specs.declared.Verdict.TheVariants.{Accepted, Refused}
 use Rattle.verdict.specs.Lateness.{lateness}

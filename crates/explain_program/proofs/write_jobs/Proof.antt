@@ -1,7 +1,7 @@
 -- `write_jobs` meets its contract.
 use mathlib.Core.Path.{sym, ◌∙◌}
 use Rattle.basis.specs.Bytes.{overwritten_length}
-use Rattle.tasks.specs.Kept.{kept_tells}
+use Rattle.tasks.proofs.Kept.{kept_tells}
 use Rattle.explain_program.proofs.Jobs.{never_broken, writes_needs}
 use borrow.Author.Rules.{rules}
 use Rattle.explain_program.proofs.write_jobs.Statement.{statement}

@@ -3,7 +3,7 @@ use mathlib.Core.Path.{sym}
 use native.Mathlib.Omega.{arith}
 use Rattle.basis.specs.Choose.{choose}
 use Rattle.readings.specs.Reading.{logged_of}
-use Rattle.readings.specs.Laws.{reads_damaged}
+use Rattle.readings.proofs.Laws.{reads_damaged}
 use Rattle.readings.proofs.read_logged.Goals as goal
 
 pub returns-in-0 : goal.returns-in-0

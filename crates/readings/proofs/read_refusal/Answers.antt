@@ -5,7 +5,7 @@ use Prim.Native.Nat.{ℕ, ◌<◌}
 use native.Mathlib.Omega.{arith}
 use Rattle.basis.specs.Choose.{choose, within}
 use Rattle.readings.specs.Reading.{refusal_of}
-use Rattle.readings.specs.Laws.{reads_bound, reads_run, reads_program, reads_viewer, reads_no_refusal}
+use Rattle.readings.proofs.Laws.{reads_bound, reads_run, reads_program, reads_viewer, reads_no_refusal}
 use Rattle.readings.proofs.read_refusal.Goals as goal
 
 past-twenty : (n : ℕ) → 19 < n → (n ≡ 20 → ⊥) → 20 < n

@@ -1,7 +1,7 @@
 -- `tasks::gcd` meets its contract.
 use native.Mathlib.Omega.{arith}
 use native.Mathlib.Nat.{mod-lt, pos_of_ne-zero}
-use Rattle.tasks.specs.Euclid.{gcd_zero, gcd_step}
+use Rattle.tasks.proofs.Euclid.{gcd_zero, gcd_step}
 use Rattle.tasks.proofs.+gcd.Goals as goal
 
 pub nonzero_rem-a : goal.nonzero_rem-a

@@ -2,7 +2,8 @@
 use Prim.Native.Nat.{◌≤◌, ◌/◌}
 use native.Mathlib.Omega.{arith}
 use native.Mathlib.Nat.{mul-le-mul, div-le_self, zero-div, zero-mul}
-use Rattle.tasks.specs.Euclid.{lcm_of, gcd_of, gcd_pos}
+use Rattle.tasks.specs.Euclid.{lcm_of, gcd_of}
+use Rattle.tasks.proofs.Euclid.{gcd_pos}
 use borrow.Author.Rules.{rules}
 use Rattle.tasks.proofs.lcm.Goals as goal
 
@@ -17,7 +18,7 @@ pub overflow_cast-result : goal.overflow_cast-result
 overflow_cast-result c = omega (arith, div-le_self c.args.a c.gcd.result)
 
 pub overflow_mul-result : goal.overflow_mul-result
-overflow_mul-result c = 
+overflow_mul-result c =
     let q : c.args.a / c.gcd.result ≤ 4294967295 = omega (arith, div-le_self c.args.a c.gcd.result) in
     let b : c.args.b ≤ 4294967295 = omega arith in
     omega (arith, mul-le-mul q b)

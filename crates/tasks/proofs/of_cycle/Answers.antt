@@ -23,7 +23,7 @@ returns-then-next-gt4096 c = given_up _ _ _ _ _ c.loop-i-test.true c.loop-i.inva
 
 pub loop-i-preserved : goal.loop-i-preserved
 unfolding task_at no_task of_cycle clash
-loop-i-preserved c = 
+loop-i-preserved c =
     let next = one_more_multiple _ _ _ _ c.loop-i.invariant.2 c.lcm-next.ensures in
     (omega arith, c.if-next-gt4096.false, rw (add-one _) next, nothing_here _ _ c.loop-i.invariant.3 (keeps_to 4096 _ _ next _ (λ z. omega arith) c.if-next-gt4096.false))
 
@@ -44,7 +44,7 @@ unfolding task_at no_task
 loop-j-preserved c = (omega arith, one_more_jobs _ _ _ _ c.loop-j.invariant.1, omega (arith, div-le_self c.loop-i.multiple (task_at c.args.list.tasks c.loop-j.j).period))
 
 pub returns : goal.returns
-returns c = 
+returns c =
     let end : c.loop-i.i ≡ c.args.list.count = omega arith in
     let end2 : c.loop-j.j ≡ c.args.list.count = omega arith in
     all_reached _ _ _ _ (rw end at c.loop-i.invariant.3) (rw end at c.loop-i.invariant.2) (rw end2 at c.loop-j.invariant.1)

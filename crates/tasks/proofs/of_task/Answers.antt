@@ -13,20 +13,20 @@ returns-then-not-is_within c = yes_so _ _ _ _ (sym (ap not c.is_within.ensures) 
 
 pub returns-then-not-is_within-2 : goal.returns-then-not-is_within-2
 unfolding of_numbers refusal
-returns-then-not-is_within-2 c = 
+returns-then-not-is_within-2 c =
     no_so _ _ _ _ (sym (ap not c.is_within.ensures) ∙ c.if-not-is_within.false-raw)
     (yes_so _ _ _ _ (sym (ap not c.is_within-2.ensures) ∙ c.if-not-is_within-2.true-raw) refl)
 
 pub returns-then-not-is_within-3 : goal.returns-then-not-is_within-3
 unfolding of_numbers refusal
-returns-then-not-is_within-3 c = 
+returns-then-not-is_within-3 c =
     no_so _ _ _ _ (sym (ap not c.is_within.ensures) ∙ c.if-not-is_within.false-raw)
     (no_so _ _ _ _ (sym (ap not c.is_within-2.ensures) ∙ c.if-not-is_within-2.false-raw)
     (yes_so _ _ _ _ (sym (ap not c.is_within-3.ensures) ∙ c.if-not-is_within-3.true-raw) refl))
 
 pub returns : goal.returns
 unfolding of_numbers refusal none
-returns c = 
+returns c =
     no_so _ _ _ _ (sym (ap not c.is_within.ensures) ∙ c.if-not-is_within.false-raw)
     (no_so _ _ _ _ (sym (ap not c.is_within-2.ensures) ∙ c.if-not-is_within-2.false-raw)
     (no_so _ _ _ _ (sym (ap not c.is_within-3.ensures) ∙ c.if-not-is_within-3.false-raw) refl))

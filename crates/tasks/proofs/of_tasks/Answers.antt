@@ -35,19 +35,19 @@ loop-j-init c = (omega arith, omega arith, refl, none_number)
 
 pub returns-then-wide-sum : goal.returns-then-wide-sum
 unfolding task_at no_task of_memory refusal
-returns-then-wide-sum c = 
+returns-then-wide-sum c =
     let summed = one_more_memory _ _ _ _ c.loop-j.invariant.2 c.wide-sum.ensures.0 in
     finds _ _ (memory-says _ _ _ (omega arith) c.loop-i.invariant.1 ∙ found_here _ _ _ _ c.loop-j-test.true c.loop-j.invariant.3 (exceeds _ _ _ summed _ (λ z. omega arith) (omega arith) ∙ ap (refusal 5) (sym (add-one _))) (λ z. omega arith))
 
 pub loop-j-preserved : goal.loop-j-preserved
 unfolding task_at no_task of_memory refusal
-loop-j-preserved c = 
+loop-j-preserved c =
     let summed = one_more_memory _ _ _ _ c.loop-j.invariant.2 c.wide-sum.ensures.0 in
     (omega arith, omega arith, rw (add-one _) summed, nothing_here _ _ c.loop-j.invariant.3 (keeps_to _ _ _ summed _ (λ z. omega arith) (omega arith)))
 
 pub returns : goal.returns
 unfolding refusal
-returns c = 
+returns c =
     let end : c.loop-j.j ≡ c.args.list.count = omega arith in
     record {
       nothing = λ _. ap (λ (a : Answer). a.number) (memory-says _ _ _ (omega arith) c.loop-i.invariant.1) ∙ rw end at c.loop-j.invariant.3;

@@ -28,7 +28,6 @@ module _ (t T : ℕ) (pos : 0 < T) where
 pub overflow_add-result : goal.overflow_add-result
 overflow_add-result c = let a = c.args in omega (arith, one-more-fits a.micros (a.slice - a.tick) (omega (arith, c.requires)) c.if-micros-share-eq0.false)
 
-
 pub returns-then-micros-share-eq0 : goal.returns-then-micros-share-eq0
 returns-then-micros-share-eq0 c = let a = c.args in nothing_left a.micros (a.slice - a.tick) (omega (arith, c.requires)) c.if-micros-share-eq0.true
 

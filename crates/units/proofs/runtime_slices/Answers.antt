@@ -11,7 +11,7 @@ rounded_up-requires c = omega arith
 
 pub returns-then-tick-slice : goal.returns-then-tick-slice
 unfolding runtime_slices choose
-returns-then-tick-slice c = 
+returns-then-tick-slice c =
     let a = c.args in
     rw (c.rounded_up.ensures, lt-leb a.slice a.tick (omega arith)) refl
 

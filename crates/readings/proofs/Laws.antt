@@ -12,6 +12,13 @@ use Rattle.readings.specs.declared.Refusal.TheVariants.{Bound, Lateness, ShortTa
 use Rattle.readings.specs.declared.Logged.TheVariants.{NoResult, Done, Over, Late, Damaged}
 use Rattle.readings.specs.Reading.{entry_of, refusal_of, logged_of, entry_byte, refusal_number, logged_byte}
 
+-- ---- entries
+-- which case it is
+unfoldable case_of : Entry → ℕ
+case_of Idle = 0
+case_of (Task i) = 1
+case_of (NoEntry byte) = 2
+
 above : (a b n : ℕ) → b < n → within a b n ≡ false
 unfolding within
 above a b n o = rw (lt-leb n b o, and-false)
@@ -26,13 +33,6 @@ module _ {A : Type 0} (number : A → ℕ) (n : ℕ) where
   unfolding choose
   of_choice true x y h k = h refl
   of_choice false x y h k = k
-
--- ---- entries
--- which case it is
-unfoldable case_of : Entry → ℕ
-case_of Idle = 0
-case_of (Task i) = 1
-case_of (NoEntry byte) = 2
 
 apart : {A : Type 0} {x y : Entry} → x ≡ y → (case_of x ≡ case_of y → ⊥) → A
 apart e ne = absurd (ne (ap case_of e))
