@@ -8,16 +8,11 @@ pub mod Demand2Holds
 pub mod Quick
 pub mod QuickHolds
 pub mod Refusals
-pub mod RefusalsHold
 pub mod Program
-pub mod ProgramHolds
 pub mod Begun
 pub mod Clash
-pub mod ClashHolds
 pub mod Demand1
-pub mod Demand1Holds
 pub mod EmptyChamber
-pub mod EmptyChamberHolds
 pub mod Demand3
 pub mod Demand3Holds
 pub mod Exists
@@ -25,9 +20,7 @@ pub mod Sheet
 pub mod RunOnA
 pub mod Wrong
 pub mod Viewer
-pub mod ViewerHolds
 pub mod Unnamed
-pub mod UnnamedHolds
 pub mod Deadlines
 pub mod DeadlinesHold
 pub mod Determined

@@ -38,7 +38,7 @@ use Rattle.promises.specs.Demand2.{judged_as}
 use Rattle.promises.specs.Demand3.{jobs_in, FullRun}
 use Rattle.promises.specs.Demand3Holds.{runs_as_filling}
 use Rattle.promises.specs.Refusals.{list_rules}
-use Rattle.promises.specs.RefusalsHold.{list_goes}
+use Rattle.promises.proofs.RefusalsHold.{list_goes}
 use Rattle.promises.specs.Viewer.{no_form, not_the_cycle, entry_above, output_short, write_rules, file_rules, WhoRan, Stand, Viewer}
 
 -- ---- after the list's own checks

@@ -42,8 +42,8 @@ use Rattle.readings.specs.Reading.{entry_of}
 use Rattle.readings.proofs.Laws.{reads_no_entry, idle_read, task_read, no_entry_read, entry_byte_lem, refusal_number_lem, logged_byte_lem, reads_results, done_is_one}
 use Rattle.bench.specs.Drive.{task_in}
 use Rattle.promises.specs.Begun.{all_alike, start_accepted, start_period, start_runtime, start_job, start_due}
-use Rattle.promises.specs.RefusalsHold.{bounds_go, list_goes, build_goes, start_goes, who_goes, step_goes, runtime_goes, period_goes, deadline_goes}
-use Rattle.promises.specs.ProgramHolds.{program}
+use Rattle.promises.proofs.RefusalsHold.{bounds_go, list_goes, build_goes, start_goes, who_goes, step_goes, runtime_goes, period_goes, deadline_goes}
+use Rattle.promises.proofs.ProgramHolds.{program}
 use Rattle.promises.specs.Demand1.{NoRun, BegunRun, RunsByTable, RunsFilling, Due, Completes, ClosedSlice, Demand1, Released}
 
 -- ---- table building

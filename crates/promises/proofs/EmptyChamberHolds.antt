@@ -18,10 +18,11 @@ use Rattle.run.specs.declared.Closed.TheVariants.{Accepted}
 use Rattle.run.specs.Who.{running}
 use Rattle.run.specs.Step.{state_after, log_after, closed_answer}
 use Rattle.run.specs.Accepted.{StepAccepted, step_accepted, step_answers}
-use Rattle.promises.specs.Demand1Holds.{step_said, step_refused}
+use Rattle.promises.proofs.Demand1Holds.{step_said, step_refused}
 use Rattle.promises.specs.Demand3.{jobs_in, place_of}
 use Rattle.promises.specs.EmptyChamber.{Calls, Earned, byte_in, EmptyChamber}
-use Rattle.promises.specs.Earned.{byte_of, Honest, honest_after, written_stays, pass_brought}
+use Rattle.promises.specs.Earned.{byte_of, Honest}
+use Rattle.promises.proofs.Earned.{honest_after, written_stays, pass_brought}
 use Rattle.promises.specs.Begun.{start_accepted, offset_listed, start_honest, start_byte}
 use Rattle.promises.specs.Begun as begun
 

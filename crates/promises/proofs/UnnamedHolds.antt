@@ -15,7 +15,7 @@ use Rattle.run.specs.Who.{of9, of10, of11_by, of11, who_found, who_refusal, answ
 use Rattle.run.specs.Step.{of12, of13, of14, step_found, step_refusal, closed_answer}
 use Rattle.run.specs.StateAfter.{handed_on}
 use Rattle.run.specs.Accepted.{step_accepted, step_answers}
-use Rattle.promises.specs.Demand1Holds.{step_said, step_refused, demand_1}
+use Rattle.promises.proofs.Demand1Holds.{step_said, step_refused, demand_1}
 use Rattle.promises.specs.Unnamed.{CallsUnnamed, NoModeNamed}
 
 -- ---- numbers

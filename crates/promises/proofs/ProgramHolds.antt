@@ -16,7 +16,7 @@ use Rattle.records.specs.Grammar.{accepted, refused, Read, Reads, good, bad}
 use Rattle.records.specs.Reading.{parsed_reads}
 use Rattle.printing.specs.Text.{table_text}
 use Rattle.promises.specs.Refusals.{list_rules}
-use Rattle.promises.specs.RefusalsHold.{list_goes}
+use Rattle.promises.proofs.RefusalsHold.{list_goes}
 use Rattle.output.specs.Output.{record_of, entries, Prints, too_long, bad_line}
 use Rattle.output.specs.Output.{refused as list-not-accepted, accepted as list_accepted}
 use Rattle.output.specs.Determined.{one_output}

@@ -1,0 +1,11 @@
+-- Lemmas.
+pub mod ClashHolds
+pub mod Demand1Holds
+pub mod ViewerHolds
+pub mod EmptyChamberHolds
+pub mod RefusalsHold
+pub mod Earned
+pub mod ProgramHolds
+pub mod UnnamedHolds
+pub mod Wrong
+pub mod Determined
