@@ -16,7 +16,7 @@ use Rattle.tasks.specs.Bounds.{jobs_of}
 use Rattle.verdict.specs.declared.Verdict.{Verdict}
 use Rattle.verdict.specs.declared.Verdict.TheVariants as verdict
 use Rattle.verdict.specs.Verdict.{verdict_of}
-use Rattle.verdict.specs.Answers.{accepted_tells}
+use Rattle.verdict.proofs.Told.{accepted_tells}
 use Rattle.explain.specs.declared.Viewed.{Viewed}
 use Rattle.explain.specs.declared.Viewed.TheVariants.{Given, No, Refused}
 use Rattle.explain.specs.Seen.{entries_to, run_number, refused_by, unless_refused, checked_by, checked_of, AfterList, Explained, ExplainsRun, NeedsIn}

@@ -15,7 +15,7 @@ use Rattle.tasks.specs.Kept.{KeepsBounds}
 use Rattle.verdict.specs.declared.Verdict.{Verdict}
 use Rattle.verdict.specs.declared.Verdict.TheVariants.{Accepted, Refused as Judged}
 use Rattle.verdict.specs.Verdict.{verdict_of}
-use Rattle.verdict.specs.Answers.{accepted_tells}
+use Rattle.verdict.proofs.Told.{accepted_tells}
 use Rattle.records.specs.declared.Form.TheVariants.{Good}
 use Rattle.records.specs.declared.Parsed.{Parsed}
 use Rattle.records.specs.Grammar.{read_of, Reads}

@@ -12,7 +12,7 @@ use Rattle.verdict.specs.declared.Verdict.{Verdict}
 use Rattle.verdict.specs.declared.Verdict.TheVariants.{Accepted, Refused}
 use Rattle.verdict.specs.Verdict.{verdict_of, verdict_answer}
 use Rattle.verdict.specs.Table.{fitted, tabled, Built}
-use Rattle.verdict.specs.Answers.{accepted_tells}
+use Rattle.verdict.proofs.Told.{accepted_tells}
 use Rattle.output.specs.Output.{entries}
 
 -- The first entries of bytes that are written over do not depend on these.

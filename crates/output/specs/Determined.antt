@@ -6,7 +6,7 @@ use Rattle.basis.specs.Choose.{choose, choose_yes, choose_no}
 use Rattle.basis.specs.Answer.{refusal}
 use Rattle.tasks.specs.declared.TaskList.{TaskList}
 use Rattle.records.specs.Grammar.{Read, read_of, Reads}
-use Rattle.records.specs.Reading.{reads_only}
+use Rattle.records.proofs.Reading.{reads_only}
 use Rattle.records.specs.Shapes.{parsed_of}
 use Rattle.printing.specs.Text.{table_text}
 use Rattle.output.specs.Output.{record_of, entries, judged_as, Prints, too_long, bad_line, refused, accepted, note_of, Notes, of_no_list, of_bad_line, of_list as of-judged}

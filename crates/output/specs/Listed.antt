@@ -4,7 +4,7 @@ use Rattle.basis.specs.Answer.{refusal}
 use Rattle.records.specs.declared.Form.TheVariants.{Good, Bad}
 use Rattle.records.specs.declared.Parsed.{Parsed}
 use Rattle.records.specs.Grammar.{Read, form_answer, read_of, Reads}
-use Rattle.records.specs.Reading.{good_is_0, bad_is_15}
+use Rattle.records.proofs.Reading.{good_is_0, bad_is_15}
 use Rattle.printing.specs.Text.{refusal_text}
 use Rattle.printing.specs.Written.{Written}
 use Rattle.output.specs.Output.{record_of}

@@ -14,11 +14,11 @@ use Rattle.verdict.specs.declared.Verdict.{Verdict}
 use Rattle.verdict.specs.declared.Verdict.TheVariants.{Accepted, Refused}
 use Rattle.verdict.specs.Verdict.{verdict_of, verdict_answer}
 use Rattle.verdict.specs.Table.{Built}
-use Rattle.verdict.specs.Answers.{refused_not_0}
+use Rattle.verdict.proofs.Told.{refused_not_0}
 use Rattle.records.specs.declared.Form.TheVariants.{Good, Bad}
 use Rattle.records.specs.declared.Parsed.{Parsed}
 use Rattle.records.specs.Grammar.{form_answer, read_of, Reads}
-use Rattle.records.specs.Reading.{good_is_0, bad_is_15}
+use Rattle.records.proofs.Reading.{good_is_0, bad_is_15}
 use Rattle.printing.specs.Text.{refusal_text, clash_text, table_text}
 use Rattle.printing.specs.Written.{Written}
 use Rattle.output.specs.Output.{record_of, entries, too_long, bad_line, refused, accepted, Answers, note_of, of_no_list, of_bad_line, of_list, Noted}

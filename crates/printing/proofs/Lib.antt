@@ -2,3 +2,4 @@
 pub mod Chain
 pub mod Signed
 pub mod Rooms
+pub mod Lengths

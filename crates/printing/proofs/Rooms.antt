@@ -13,7 +13,7 @@ use Rattle.basis.specs.Choose.{eq_or_ne}
 use Rattle.basis.specs.Sum.{sum, sum_same, sum_le}
 use Rattle.printing.specs.Text.{ascii, crlf, refusal_header, refusal_record, refusal_text, clash_text, quick_text, table_header, table_text, pair_record, records_to, needs_header, need_record, job_records, need_records, needs_text}
 use Rattle.printing.specs.Written.{Written}
-use Rattle.printing.specs.Lengths.{refusal-length, refusal_fits, pair-length, clash_fits, quick_fits, table_fits, slice-length, next_length, records-length, needs-length, needs_fit}
+use Rattle.printing.proofs.Lengths.{refusal-length, refusal_fits, pair-length, clash_fits, quick_fits, table_fits, slice-length, next_length, records-length, needs-length, needs_fit}
 use Rattle.printing.specs.Shapes.{Room, Put}
 use Rattle.printing.proofs.Signed.{magnitude_small}
 

@@ -2,6 +2,5 @@
 pub mod Text
 pub mod Written
 pub mod Decimal
-pub mod Lengths
 pub mod Cases
 pub mod Shapes

@@ -18,7 +18,8 @@ use Rattle.verdict.specs.declared.Verdict.{Verdict}
 use Rattle.verdict.specs.declared.Verdict.TheVariants as verdict
 use Rattle.verdict.specs.Verdict.{verdict_of, verdict_answer}
 use Rattle.verdict.specs.Table.{fitted}
-use Rattle.verdict.specs.Answers.{ByBounds, ForLateness, OnTimeAll, verdict_tells, verdict_found}
+use Rattle.verdict.specs.Answers.{ByBounds, ForLateness, OnTimeAll}
+use Rattle.verdict.proofs.Told.{verdict_tells, verdict_found}
 use Rattle.start.specs.declared.Begun.{Begun}
 use Rattle.start.specs.Start.{begun_of, begun_answer}
 use Rattle.promises.specs.Clash.{ClashAt, Explains, Clash}

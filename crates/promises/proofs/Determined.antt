@@ -42,7 +42,7 @@ use Rattle.units.specs.declared.Slices.{Slices}
 use Rattle.units.specs.Conversion.{runtime_slices, period_slices, deadline_slices}
 use Rattle.records.specs.declared.Parsed.{Parsed}
 use Rattle.records.specs.Grammar.{read_of, Reads}
-use Rattle.records.specs.Reading.{reads_one}
+use Rattle.records.proofs.Reading.{reads_one}
 use Rattle.printing.specs.Text.{refusal_text, clash_text, quick_text, table_text, needs_text, no_text}
 use Rattle.printing.specs.Written.{Written, written_one}
 use Rattle.output.specs.Explain.{ExplainPrints}

@@ -11,9 +11,9 @@ use Rattle.tasks.specs.List.{list_of}
 use Rattle.tasks.specs.Bounds.{cycle_of}
 use Rattle.verdict.specs.declared.Verdict.{Verdict}
 use Rattle.verdict.specs.Verdict.{verdict_of, verdict_answer}
-use Rattle.verdict.specs.Answers.{accepted_as}
+use Rattle.verdict.proofs.Told.{accepted_as}
 use Rattle.records.specs.Grammar.{accepted, refused, Read, Reads, good, bad}
-use Rattle.records.specs.Reading.{parsed_reads}
+use Rattle.records.proofs.Reading.{parsed_reads}
 use Rattle.printing.specs.Text.{table_text}
 use Rattle.promises.specs.Refusals.{list_rules}
 use Rattle.promises.proofs.RefusalsHold.{list_goes}

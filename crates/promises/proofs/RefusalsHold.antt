@@ -24,7 +24,8 @@ use Rattle.verdict.specs.declared.Verdict.{Verdict}
 use Rattle.verdict.specs.declared.Verdict.TheVariants as verdict
 use Rattle.verdict.specs.Verdict.{verdict_from, verdict_of, verdict_answer}
 use Rattle.verdict.specs.Table.{fitted, Built}
-use Rattle.verdict.specs.Answers.{ByBounds, ForLateness, OnTimeAll, verdict_tells, verdict_found, accepted_as}
+use Rattle.verdict.specs.Answers.{ByBounds, ForLateness, OnTimeAll}
+use Rattle.verdict.proofs.Told.{verdict_tells, verdict_found, accepted_as}
 use Rattle.start.specs.declared.Asked.{Asked}
 use Rattle.start.specs.declared.Started.{Started}
 use Rattle.start.specs.Start.{begun_of, Begins, begun_answer}

@@ -23,7 +23,8 @@ use Rattle.tasks.proofs.Kept.{plan_sound, cycle_pos, period_divides_cycle}
 use Rattle.verdict.specs.declared.Verdict.{Verdict}
 use Rattle.verdict.specs.declared.Verdict.TheVariants.{Accepted, Refused as Judged}
 use Rattle.verdict.specs.Verdict.{verdict_of, verdict_answer}
-use Rattle.verdict.specs.Answers.{OnTimeAll, accepted_as}
+use Rattle.verdict.specs.Answers.{OnTimeAll}
+use Rattle.verdict.proofs.Told.{accepted_as}
 use Rattle.start.specs.Start.{mode_of}
 use Rattle.run.specs.declared.Mode.TheVariants.{Filling}
 use Rattle.vcd.specs.Form.{vcd_text, OfRun}

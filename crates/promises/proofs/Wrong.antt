@@ -16,7 +16,7 @@ use Rattle.verdict.specs.Table.{tabled, Built}
 use Rattle.start.specs.declared.Asked.TheVariants.{Table}
 use Rattle.run.specs.declared.State.{State}
 use Rattle.starred.specs.Lists.{verdict, entries, accepted, late, A, B, C, E, G}
-use Rattle.starred.specs.Starred.{starred}
+use Rattle.starred.proofs.Starred.{starred}
 use Rattle.promises.proofs.Demand1Holds.{build_refused}
 use Rattle.promises.specs.Demand3.{FullRun, EndsWith}
 use Rattle.promises.specs.Demand3Holds.{reached, has_task, has_job, ends_in_own_slice, logging_shows, one_end_a_slice}

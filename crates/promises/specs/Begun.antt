@@ -31,7 +31,8 @@ use Rattle.run.specs.Sound.{SoundState}
 use Rattle.start.specs.Start.{mode_of, start_state, begun_of, begun_state, begun_log, Begins, begun_answer}
 use Rattle.run.specs.Places.{job_within}
 use Rattle.verdict.specs.declared.Verdict.TheVariants as verdict
-use Rattle.verdict.specs.Answers.{ByBounds, ForLateness, OnTimeAll, verdict_tells, accepted_as}
+use Rattle.verdict.specs.Answers.{ByBounds, ForLateness, OnTimeAll}
+use Rattle.verdict.proofs.Told.{verdict_tells, accepted_as}
 use Rattle.promises.specs.Demand3.{place_of}
 use Rattle.promises.specs.Carries.{Carries, offset_is, job_in}
 use Rattle.promises.specs.Reached.{fresh_has, Reached, byte_none}

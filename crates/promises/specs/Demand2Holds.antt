@@ -31,7 +31,8 @@ use Rattle.verdict.specs.Margin.{margin, first_end, tightest}
 use Rattle.verdict.specs.Tightest.{Tightest, tightest_law, no_smaller, no_better}
 use Rattle.verdict.specs.Verdict.{verdict_of, verdict_answer}
 use Rattle.basis.specs.Signed.{zero_less}
-use Rattle.verdict.specs.Answers.{ByBounds, ForLateness, OnTimeAll, on_time_accepted, verdict_tells, accepted_as, below_zero}
+use Rattle.verdict.specs.Answers.{ByBounds, ForLateness, OnTimeAll}
+use Rattle.verdict.proofs.Told.{on_time_accepted, verdict_tells, accepted_as, below_zero}
 use Rattle.verdict.specs.Table.{fitted, tabled, Built}
 use Rattle.verdict.specs.Deadlines.{EarliestMissed, missed_lacks, missing_is, closes_deadline}
 use Rattle.promises.specs.Demand2.{FirstLate, AcceptedAs, EndsAt, TableOf, Demand2}

@@ -26,12 +26,13 @@ use Rattle.tasks.specs.Kept.{KeepsBounds}
 use Rattle.tasks.proofs.Kept.{plan_sound, kept_tells, broken_tells}
 use Rattle.verdict.specs.declared.Verdict.{Verdict}
 use Rattle.verdict.specs.Verdict.{verdict_from, verdict_of, verdict_answer}
-use Rattle.verdict.specs.Answers.{ByBounds, ForLateness, OnTimeAll, verdict_tells}
+use Rattle.verdict.specs.Answers.{ByBounds, ForLateness, OnTimeAll}
+use Rattle.verdict.proofs.Told.{verdict_tells}
 use Rattle.quick.specs.declared.Quick.{Quick}
 use Rattle.quick.specs.declared.Quick.TheVariants.{Accepted, Refused}
 use Rattle.quick.specs.Quick.{tried, tried_none, tried_late, quick_from, quick_of, quick_answer}
 use Rattle.records.specs.Grammar.{Read, Reads}
-use Rattle.records.specs.Reading.{reads_only}
+use Rattle.records.proofs.Reading.{reads_only}
 use Rattle.printing.specs.Text.{table_text}
 use Rattle.output.specs.Output.{record_of, Prints, too_long, bad_line, refused, accepted}
 use Rattle.output.specs.Quick.{quick_record_of, QuickPrints, too_long as quick-too-long, bad_line as quick-bad-line, asked}

@@ -8,7 +8,7 @@ use Rattle.basis.specs.Least.{least}
 use Rattle.basis.specs.Sum.{sum}
 use Rattle.basis.specs.Bytes.{overwrite}
 use Rattle.basis.specs.Answer.{Answer, refusal, none, ◌or_else◌, first_found}
-use Rattle.verdict.specs.Answers.{accepted_as}
+use Rattle.verdict.proofs.Told.{accepted_as}
 use Rattle.plan.specs.Plan.{first_of, first, job, age, key_in, wants, pick, gets, had_after, had_all, had, entry, given, table}
 use Rattle.tasks.specs.List.{no_task, task_at, plan_of, list_of}
 use Rattle.tasks.specs.Euclid.{euclid, gcd_of, lcm_of}
@@ -28,7 +28,7 @@ use Rattle.bench.specs.Course.{Course, report_of, report_in, need_in, refusal_in
 use Rattle.bench.specs.declared.Driven.{Driven}
 use Rattle.bench.specs.Drive.{begun, Drives}
 use Rattle.starred.specs.Lists.{task, verdict, accepted, A}
-use Rattle.starred.specs.Starred.{starred}
+use Rattle.starred.proofs.Starred.{starred}
 use Rattle.promises.specs.Demand2.{AcceptedAs}
 use Rattle.promises.specs.Demand2Holds.{accepted_values}
 use Rattle.promises.specs.Demand3.{FullRun, place_of, is_logged, end_in}

@@ -11,7 +11,7 @@ use Rattle.std.proofs.lemmas.Bool.{lt-leb}
 use Rattle.basis.specs.Choose.{choose, choose_yes, choose_no, le_or_lt, eq_or_ne}
 use Rattle.basis.specs.Bytes.{overwrite-length, overwrite_at}
 use Rattle.basis.specs.Answer.{Answer, refusal}
-use Rattle.verdict.specs.Answers.{accepted_as}
+use Rattle.verdict.proofs.Told.{accepted_as}
 use Rattle.plan.specs.Plan.{Demand}
 use Rattle.tasks.specs.declared.TaskList.{TaskList}
 use Rattle.tasks.specs.List.{plan_of}

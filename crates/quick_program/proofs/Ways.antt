@@ -10,7 +10,7 @@ use Rattle.quick.specs.Quick.{quick_of, quick_answer}
 use Rattle.records.specs.declared.Form.TheVariants.{Good, Bad}
 use Rattle.records.specs.declared.Parsed.{Parsed}
 use Rattle.records.specs.Grammar.{form_answer, read_of, Reads}
-use Rattle.records.specs.Reading.{good_is_0, bad_is_15}
+use Rattle.records.proofs.Reading.{good_is_0, bad_is_15}
 use Rattle.printing.specs.Text.{quick_text}
 use Rattle.printing.specs.Written.{Written}
 use Rattle.output.specs.Quick.{quick_record_of, too_long, bad_line, asked, QuickAnswers}

@@ -16,9 +16,10 @@ use Rattle.records.specs.declared.Form.TheVariants.{Good, Bad}
 use Rattle.records.specs.declared.Parsed.{Parsed}
 use Rattle.records.specs.declared.Line.{Line}
 use Rattle.records.specs.Grammar.{read_of, Reads}
-use Rattle.records.specs.LineEnds.{is_pair, lines_of, lines_pair, lines_byte}
+use Rattle.records.specs.LineEnds.{is_pair, lines_of}
+use Rattle.records.proofs.LineEnds.{lines_pair, lines_byte}
 use Rattle.records.specs.Shapes.{fresh, with_byte, kept, close_good, close_as, close_line, at_end, read_from, nothing, parsed_of}
-use Rattle.records.specs.Reading.{byte_read, fresh_read, line_read, parsed_reads}
+use Rattle.records.proofs.Reading.{byte_read, fresh_read, line_read, parsed_reads}
 
 -- What is left to read comes to the answer of the whole input; and each line that is counted took the two bytes of its CRLF.
 pub record Reached (input : List ℕ) (read : Parsed) (line : Line) (i : ℕ) : Type 0 where

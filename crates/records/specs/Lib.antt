@@ -2,6 +2,3 @@
 pub mod Grammar
 pub mod LineEnds
 pub mod Shapes
-pub mod RowForm
-pub mod Reading
-pub mod Worked

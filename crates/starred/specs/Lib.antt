@@ -1,4 +1,3 @@
 -- The starred lists of the paper: the statement (Starred) and its proof.
 pub mod Lists
-pub mod Starred
 pub mod Asked

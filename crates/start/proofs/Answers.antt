@@ -11,7 +11,7 @@ use Rattle.tasks.specs.declared.TaskList.{TaskList}
 use Rattle.verdict.specs.declared.Verdict.{Verdict}
 use Rattle.verdict.specs.declared.Verdict.TheVariants as verdict
 use Rattle.verdict.specs.Verdict.{verdict_of}
-use Rattle.verdict.specs.Answers.{accepted_tells}
+use Rattle.verdict.proofs.Told.{accepted_tells}
 use Rattle.run.specs.declared.State.{State}
 use Rattle.start.specs.declared.Asked.{Asked}
 use Rattle.start.specs.declared.Begun.TheVariants as begun

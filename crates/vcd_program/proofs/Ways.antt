@@ -12,7 +12,7 @@ use Rattle.verdict.specs.declared.Verdict.{Verdict}
 use Rattle.verdict.specs.declared.Verdict.TheVariants.{Accepted, Refused}
 use Rattle.verdict.specs.Verdict.{verdict_of, verdict_answer}
 use Rattle.verdict.specs.Table.{Built}
-use Rattle.verdict.specs.Answers.{refused_not_0}
+use Rattle.verdict.proofs.Told.{refused_not_0}
 use Rattle.records.specs.declared.Form.TheVariants.{Good}
 use Rattle.records.specs.declared.Parsed.{Parsed}
 use Rattle.records.specs.Grammar.{read_of, Reads}

@@ -5,3 +5,4 @@ pub mod Turning
 pub mod Cycle
 pub mod Signed
 pub mod Answers
+pub mod Told

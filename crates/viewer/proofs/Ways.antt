@@ -18,7 +18,7 @@ use Rattle.tasks.specs.declared.TaskList.{TaskList}
 use Rattle.verdict.specs.declared.Verdict.{Verdict}
 use Rattle.verdict.specs.declared.Verdict.TheVariants.{Accepted, Refused as Judged}
 use Rattle.verdict.specs.Verdict.{verdict_of, verdict_answer}
-use Rattle.verdict.specs.Answers.{accepted_tells}
+use Rattle.verdict.proofs.Told.{accepted_tells}
 use Rattle.vcd.specs.Form.{vcd_text, OfRun}
 use Rattle.dump.specs.Wrote.{Wrote}
 use Rattle.readback.specs.declared.Found.{Found}

@@ -25,6 +25,6 @@ pub shape_of-out : goal.shape_of-out
 shape_of-out c = put-length c.loop-k.invariant.1
 
 pub returns : goal.returns
-returns c = 
+returns c =
     let end : c.loop-k.k ≡ c.args.count = omega arith in
     rw end at c.loop-k.invariant.1

@@ -17,12 +17,12 @@ unfolding need_records sum
 loop-i-init c = (omega arith, omega arith, put_nothing _ _)
 
 pub put_jobs-after-requires : goal.put_jobs-after-requires
-put_jobs-after-requires c = 
+put_jobs-after-requires c =
     let known = c.shared_slice_known-1 in
     record { room = rw (add-one, c.number_at-count.ensures, c.loop-i.invariant.1) (task_room _ _ 16 _ c.requires c.loop-i.invariant.2 c.loop-i-test.true); count_bound = omega (arith, c.number_at-count.ensures, place_fits (λ t. get_or c.args.jobs.now t 0) (λ i. omega (arith, known.given i)) c.loop-i.i c.loop-i-test.true) }
 
 pub overflow_add-from : goal.overflow_add-from
-overflow_add-from c = 
+overflow_add-from c =
     let known = c.shared_slice_known-1 in
     omega (arith, c.number_at-count.ensures, place_fits (λ t. get_or c.args.jobs.now t 0) (λ i. omega (arith, known.given i)) c.loop-i.i c.loop-i-test.true)
 
@@ -34,6 +34,6 @@ pub shape_of-out : goal.shape_of-out
 shape_of-out c = put-length c.loop-i.invariant.2
 
 pub returns : goal.returns
-returns c = 
+returns c =
     let end : c.loop-i.i ≡ 16 = omega arith in
     rw end at c.loop-i.invariant.2

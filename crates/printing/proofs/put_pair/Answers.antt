@@ -20,6 +20,5 @@ pub returns : goal.returns
 unfolding pair_record crlf ascii
 returns c = search chain
 
-
 -- LEFT slice-aggregate-put-text : tie.Need-slice-aggregate-put-text
 -- slice-aggregate-put-text c = search rules

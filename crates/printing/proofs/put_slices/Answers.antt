@@ -36,6 +36,6 @@ pub shape_of-out : goal.shape_of-out
 shape_of-out c = put-length c.loop-t.invariant.1
 
 pub returns : goal.returns
-returns c = 
+returns c =
     let end : c.loop-t.t ≡ c.args.count = omega arith in
     rw end at c.loop-t.invariant.1

@@ -10,7 +10,7 @@ use Rattle.printing.proofs.Rooms.{slice_room}
 use Rattle.printing.proofs.put_slices.Given as goal
 
 abbrev pub invariant-loop-t : goal.invariant-loop-t
-invariant-loop-t l = 
+invariant-loop-t l =
     (l.t ≤ l.count) × Put (records_to l.table l.t) l.at l.initial.out l.out l.next
 
 abbrev pub decreases-loop-t : goal.decreases-loop-t

@@ -13,7 +13,7 @@ pub bounds-text-i : goal.bounds-text-i
 bounds-text-i c = omega arith
 
 pub put-after-requires : goal.put-after-requires
-put-after-requires c = 
+put-after-requires c =
     room_more _ _ c.requires c.loop-i.invariant.1 c.loop-i-test.true
 
 pub overflow_add-i : goal.overflow_add-i
@@ -23,7 +23,7 @@ pub loop-i-smaller : goal.loop-i-smaller
 loop-i-smaller c = omega arith
 
 pub loop-i-preserved : goal.loop-i-preserved
-loop-i-preserved c = 
+loop-i-preserved c =
     (omega arith, put_more _ _ c.loop-i.invariant.1 c.put-after.ensures c.loop-i-test.true)
 
 pub shape_of-out : goal.shape_of-out

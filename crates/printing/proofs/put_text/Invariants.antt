@@ -7,7 +7,7 @@ use Rattle.printing.proofs.Chain.{put_nothing, put-length, put_more, room_more, 
 use Rattle.printing.proofs.put_text.Given as goal
 
 abbrev pub invariant-loop-i : goal.invariant-loop-i
-invariant-loop-i l = 
+invariant-loop-i l =
     (l.i ≤ length l.text) × Put (take l.i l.text) l.at l.initial.out l.out l.next
 
 abbrev pub decreases-loop-i : goal.decreases-loop-i

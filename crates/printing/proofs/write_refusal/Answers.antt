@@ -8,13 +8,13 @@ use Rattle.printing.proofs.write_refusal.Goals as goal
 
 pub put_refusal-requires : goal.put_refusal-requires
 unfolding refusal_header crlf ascii
-put_refusal-requires c = 
+put_refusal-requires c =
     let fits = c.ranges in
     rw (back32 _ fits.margin) (refusal_room _ _ _ fits.number fits.task fits.margin c.put_text-next.ensures)
 
 pub returns : goal.returns
 unfolding refusal_text refusal_header crlf ascii
-returns c = 
+returns c =
     let fits = c.ranges in
     let whole = put_whole (chain c.put_text-next.ensures (rw (back32 _ fits.margin) at c.put_refusal.ensures)) in
     record { written = whole; upper_bound = refusal_room_enough _ _ _ fits.number fits.task fits.margin whole }

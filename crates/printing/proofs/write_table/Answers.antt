@@ -8,13 +8,13 @@ use Rattle.printing.proofs.write_table.Goals as goal
 
 pub put_slices-requires : goal.put_slices-requires
 unfolding table_header crlf ascii
-put_slices-requires c = 
+put_slices-requires c =
     let known = c.shared_slice_known-1 in
     record { room = table_room _ _ (omega arith) (λ i. omega (arith, known.given i)) c.put_text-next.ensures; count_in_bounds = omega arith }
 
 pub returns : goal.returns
 unfolding table_text table_header crlf ascii
-returns c = 
+returns c =
     let known = c.shared_slice_known-1 in
     let slices = rw (c.shorter-count.ensures, ← cycle_records) at c.put_slices.ensures in
     let whole = put_whole (chain c.put_text-next.ensures slices) in

@@ -10,7 +10,7 @@ use Rattle.records.proofs.close_good.Goals as goal
 
 pub returns-then-closed-line : goal.returns-then-closed-line
 unfolding close_good
-returns-then-closed-line c = 
+returns-then-closed-line c =
     let l = c.keep-list.ensures ∙ ap (kept c.args.list) c.task_of-task.ensures in
     yes_so _ _ _ _ c.if-closed-line.true (ap (λ (x : TaskList). record { form = Good; list = x }) l)
 

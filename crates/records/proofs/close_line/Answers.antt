@@ -5,7 +5,7 @@ use borrow.Author.Rules.{rules}
 use Rattle.records.proofs.close_line.Goals as goal
 
 pub returns-in-Good : goal.returns-in-Good
-returns-in-Good c = 
+returns-in-Good c =
     let a = c.args in cc (good_closes a.read a.line (cc))
 
 pub returns-in-Bad : goal.returns-in-Bad

@@ -16,14 +16,14 @@ pub close_line-next-requires : goal.close_line-next-requires
 close_line-next-requires c = omega arith
 
 pub overflow_add-i : goal.overflow_add-i
-overflow_add-i c = 
+overflow_add-i c =
     omega (arith, pair_inside c.args.input.now _ (sym c.is_pair.ensures ∙ c.if-is_pair.true))
 
 pub loop-i-smaller-then-is_pair : goal.loop-i-smaller-then-is_pair
 loop-i-smaller-then-is_pair c = omega arith
 
 pub loop-i-preserved-then-is_pair : goal.loop-i-preserved-then-is_pair
-loop-i-preserved-then-is_pair c = 
+loop-i-preserved-then-is_pair c =
     line_ends _ _ _ _ c.loop-i-test.true c.loop-i.invariant _ _ (sym c.is_pair.ensures ∙ c.if-is_pair.true) c.close_line-next.ensures c.fresh_line-line-then-is_pair.ensures
 
 pub bounds-input-i : goal.bounds-input-i
@@ -36,7 +36,7 @@ pub loop-i-smaller : goal.loop-i-smaller
 loop-i-smaller c = omega arith
 
 pub loop-i-preserved : goal.loop-i-preserved
-loop-i-preserved c = 
+loop-i-preserved c =
     line_goes_on _ _ _ _ c.loop-i-test.true c.loop-i.invariant _ (sym c.is_pair.ensures ∙ c.if-is_pair.false) c.with_byte-longer.ensures
 
 pub at_end-requires : goal.at_end-requires

@@ -7,4 +7,3 @@ invariant-loop-k l = l.k ≤ 16
 
 abbrev pub decreases-loop-k : goal.decreases-loop-k
 decreases-loop-k l = 16 - l.k
-

@@ -4,9 +4,9 @@ use Rattle.verdict.proofs.Turning.{Turning, turning_none, still_fits, turning_mo
 use Rattle.verdict.proofs.walk.turn.Given as goal
 
 abbrev pub invariant-loop-k : goal.invariant-loop-k
-invariant-loop-k l = 
+invariant-loop-k l =
     (l.k ≤ l.count) × Turning l.order l.periods l.dues l.runtimes l.initial.releases l.initial.events l.initial.lacks l.count l.t l.k l.next l.releases l.events l.lacks
 
 abbrev pub decreases-loop-k : goal.decreases-loop-k
-decreases-loop-k l = 
+decreases-loop-k l =
     l.count - l.k

@@ -18,8 +18,9 @@ use Rattle.records.specs.declared.Parsed.{Parsed}
 use Rattle.records.specs.declared.Line.{Line}
 use Rattle.records.specs.Grammar.{Row, Rows, no_rows, row, Lines, Read, accepted, refused, form_answer, read_of, Reads, good, bad}
 use Rattle.records.specs.Shapes.{fresh, with_digit, with_comma, with_byte, line_from, complete, begun, kept, close_good, close_line, good_closes, bad_stays, at_end, read_lines, read_from, nothing, parsed_of}
-use Rattle.records.specs.RowForm.{row_complete, complete_row}
-use Rattle.records.specs.LineEnds.{push, lines_of, lines_of_lem, lines_only}
+use Rattle.records.proofs.RowForm.{row_complete, complete_row}
+use Rattle.records.specs.LineEnds.{push, lines_of}
+use Rattle.records.proofs.LineEnds.{lines_of_lem, lines_only}
 
 -- ---- byte by byte is line by line
 begun_after : (s : Line) (b : ℕ) → begun (with_byte s b) ≡ true

@@ -11,7 +11,7 @@ use Rattle.tasks.specs.List.{list_of, task_at, no_task}
 use Rattle.records.specs.Grammar.{Read, accepted, refused, form_answer, read_of, Reads}
 use Rattle.records.specs.Shapes.{with_digit, with_comma, with_byte, line_from, task_of, kept, close_good, close_as, close_line, read_lines, nothing, parsed_of}
 use Rattle.records.specs.LineEnds.{is_pair, push, lines_of}
-use Rattle.records.specs.Reading.{parsed_reads}
+use Rattle.records.proofs.Reading.{parsed_reads}
 
 abbrev bytes : String → List ℕ
 bytes none = []
