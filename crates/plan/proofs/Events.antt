@@ -1,6 +1,6 @@
 -- Events are releases and deadlines. From one to the next the open jobs run in the order of their ranks, one after the other, each
 -- until it has had its demand.
-use Rattle.std.specs.Prelude.{◌≡◌, false, List, ◌⊎◌}
+use Rattle.std.specs.Prelude.{◌≡◌, false, List}
 use Rattle.std.proofs.Math.Path.{sym, ap}
 use Rattle.std.proofs.Common.{◌∙◌, true≢false, add-zero, add-suc, lt-ltb, le-ltb}
 use Rattle.std.proofs.Math.Logic.{inl, inr, ⊎_elim}

@@ -1,7 +1,7 @@
 -- Lists and states whose deadlines are the periods are as they were.
-use Rattle.std.specs.Prelude.{◌≡◌, refl, Bool, true, false, not, ◌||◌, List, ◌↔◌, ℕ, suc, ◌%◌, ◌≤◌, ◌<◌, ℤ, pos}
+use Rattle.std.specs.Prelude.{◌≡◌, true, false, not, ◌||◌, List, ◌↔◌, ℕ, suc, ◌≤◌, ◌<◌, ℤ, pos}
 use Rattle.std.proofs.Math.Path.{sym, ap}
-use Rattle.std.proofs.Common.{ap₂, ◌∙◌, arith}
+use Rattle.std.proofs.Common.{◌∙◌, arith}
 use Rattle.std.proofs.Math.Bool.{or-false}
 use Rattle.std.proofs.Math.Logic.{⊎_elim}
 use Rattle.std.proofs.Math.Nat.{mod-lt}
@@ -9,24 +9,20 @@ use Rattle.std.proofs.Math.Dec.{eqb}
 use Rattle.std.proofs.lemmas.Bool.{not-false}
 use Rattle.basis.specs.Choose.{choose, choose_yes, choose_no, of_choice, bool_cases, within, within_tells, is_within}
 use Rattle.basis.specs.Bytes.{overwrite}
-use Rattle.basis.specs.Answer.{Answer, refusal, none, ◌or_else◌, first_found}
+use Rattle.basis.specs.Answer.{Answer, refusal, ◌or_else◌, first_found}
 use Rattle.plan.specs.Plan.{Plan, table}
 use Rattle.plan.specs.Points.{first_without}
 use Rattle.tasks.specs.declared.TaskList.{TaskList}
-use Rattle.tasks.specs.declared.Bounds.{Bounds}
-use Rattle.tasks.specs.declared.Bounds.TheVariants.{Kept, Broken}
 use Rattle.tasks.specs.List.{task_at, plan_of}
 use Rattle.tasks.specs.Bounds.{of_count, of_numbers, of_task, of_memory, of_cycle, found, answer, bounds_of, cycle_of, jobs_of}
-use Rattle.quick.specs.declared.Quick.{Quick}
 use Rattle.quick.specs.declared.Quick.TheVariants as quick
 use Rattle.quick.specs.Quick.{tried, quick_from, quick_of}
-use Rattle.verdict.specs.declared.Verdict.{Verdict}
 use Rattle.verdict.specs.declared.Verdict.TheVariants.{Accepted, Refused}
 use Rattle.verdict.specs.Lateness.{lateness}
 use Rattle.verdict.specs.Verdict.{judged, verdict_from, verdict_of}
 use Rattle.verdict.specs.Table.{tabled, Built}
 use Rattle.run.specs.declared.State.{State}
-use Rattle.run.specs.State.{Job, fresh, period_of, due_of, runtime_of, key_of, current_of, age_of, job_of, deadline_next, release_next}
+use Rattle.run.specs.State.{fresh, period_of, age_of, deadline_next, release_next}
 use Rattle.run.specs.Sound.{SoundState}
 use Rattle.run.specs.Step.{after_slice, closed_at, job_after}
 use Rattle.promises.specs.Deadlines.{rate_monotonic, of_pair, found_before, verdict_before, quick_before, SoundBefore, AtPeriods, StateAtPeriods, Deadlines}

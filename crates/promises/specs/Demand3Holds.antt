@@ -23,7 +23,6 @@ use Rattle.tasks.proofs.Kept.{plan_sound, cycle_pos, period_divides_cycle}
 use Rattle.run.specs.declared.Mode.TheVariants.{Table, Filling}
 use Rattle.run.specs.declared.State.{State}
 use Rattle.run.specs.declared.Closed.{Closed}
-use Rattle.run.specs.declared.Closed.TheVariants as Closed
 use Rattle.run.specs.State.{current_of, offset, job_count}
 use Rattle.run.specs.Who.{running}
 use Rattle.run.specs.Step.{closed_answer}

@@ -17,7 +17,6 @@ use Rattle.basis.specs.Slices.{ceil}
 use Rattle.basis.proofs.Slices.{ceil_suc, ceil_covers, ceil_least, ceil_grows, ceil_between}
 use Rattle.basis.specs.Sum.{sum, sum_ext, sum_le, sum_same, sum_mul}
 use Rattle.quick.specs.declared.walk.Walk.{Walk}
-use Rattle.quick.specs.declared.walk.Trial.{Trial}
 use Rattle.quick.specs.declared.walk.Trial.TheVariants.{Fails, Passes}
 use Rattle.quick.specs.Shapes.{inverse_of, multiple_from, smallest, level_asks, Level, ComesRound, Fits, Stands, NonePasses, Walks, Begins, Walked, SomePasses, Tried, FirstFails}
 use Rattle.quick.proofs.Inverse.{multiple_near, inverse_most}

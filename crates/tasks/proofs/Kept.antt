@@ -1,5 +1,5 @@
 -- What a list that keeps all bounds is like, said without numbers of refusal; and that its cycle is the least common multiple of its periods.
-use Rattle.std.specs.Prelude.{◌≡◌, refl, List, not, ◌⊎◌, ◌↔◌, ltb, eqb}
+use Rattle.std.specs.Prelude.{◌≡◌, refl, List, not, ◌↔◌, ltb, eqb}
 use Rattle.std.proofs.Common.{sym, ap, subst, ◌∙◌, inl, inr, ⊎_elim, pos_of_ne-zero, le-ltb, ltb-false, eq-eqb, ne_eqb}
 use Prim.Native.Nat.{ℕ, zero, suc, ◌≤◌, ◌<◌, ◌∣◌}
 use native.Mathlib.Omega.{arith}

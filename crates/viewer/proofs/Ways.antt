@@ -6,7 +6,7 @@ use mathlib.Core.Logic.{◌⊎◌, inl, inr, ⊎_elim}
 use Prim.Native.Nat.{ℕ, ◌≤◌, ◌<◌}
 use native.Mathlib.Omega.{arith}
 use lib.Dec.{leb, eqb}
-use lib.IntN.{ℤ, pos}
+use lib.IntN.{ℤ}
 use lib.ListN.{length, take, replicate, length-replicate}
 use types.Run.{OneOf}
 use denote.Enum.Declared.{tag_of}
@@ -19,7 +19,7 @@ use Rattle.verdict.specs.declared.Verdict.{Verdict}
 use Rattle.verdict.specs.declared.Verdict.TheVariants.{Accepted, Refused as Judged}
 use Rattle.verdict.specs.Verdict.{verdict_of, verdict_answer}
 use Rattle.verdict.proofs.Told.{accepted_tells}
-use Rattle.vcd.specs.Form.{vcd_text, OfRun}
+use Rattle.vcd.specs.Form.{vcd_text}
 use Rattle.dump.specs.Wrote.{Wrote}
 use Rattle.readback.specs.declared.Found.{Found}
 use Rattle.readback.specs.declared.Found.TheVariants.{Run, Bad}

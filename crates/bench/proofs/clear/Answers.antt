@@ -1,5 +1,5 @@
 -- `bench::clear` meets its contract: every place is written over with 0.
-use Rattle.std.proofs.Common.{◌≡◌, ℕ, ◌-◌, ◌≤◌, length, refl, arith}
+use Rattle.std.proofs.Common.{◌≡◌, length, refl, arith}
 use Rattle.basis.specs.Bytes.{overwrite, overwrite_next, overwritten_length}
 use Rattle.bench.proofs.clear.Goals as goal
 
@@ -20,7 +20,7 @@ pub loop-i-smaller : goal.loop-i-smaller
 loop-i-smaller c = omega arith
 
 pub loop-i-preserved : goal.loop-i-preserved
-loop-i-preserved c = 
+loop-i-preserved c =
     let next = overwrite_next _ _ _ _ 0 c.loop-i.invariant.1 refl in
     (omega arith, next, overwritten_length _ _ _ _ next)
 
@@ -28,6 +28,6 @@ pub shape_of-ends : goal.shape_of-ends
 shape_of-ends c = c.loop-i.invariant.2
 
 pub returns : goal.returns
-returns c = 
+returns c =
     let end : c.loop-i.i ≡ length c.args.ends.now = omega arith in
     rw end at c.loop-i.invariant.1

@@ -1,6 +1,6 @@
 -- `bench::clear` meets its contract: every place is written over with 0.
-use Rattle.std.proofs.Common.{◌≡◌, ℕ, ◌-◌, ◌≤◌, length, refl, arith}
-use Rattle.basis.specs.Bytes.{overwrite, overwrite_next, overwritten_length}
+use Rattle.std.proofs.Common.{◌≡◌, ℕ, ◌-◌, ◌≤◌, length}
+use Rattle.basis.specs.Bytes.{overwrite}
 use Rattle.bench.proofs.clear.Given as goal
 
 abbrev pub invariant-loop-i : goal.invariant-loop-i

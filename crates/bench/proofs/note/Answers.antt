@@ -1,7 +1,7 @@
 -- `bench::note` meets its contract, place by place.
-use Rattle.std.proofs.Common.{◌≡◌, ℕ, ◌-◌, ◌≤◌, length, get_or, refl, arith}
+use Rattle.std.proofs.Common.{◌≡◌, length, refl, arith}
 use Rattle.basis.specs.Bytes.{overwrite, overwritten_length}
-use Rattle.bench.specs.Course.{end_of, noted}
+use Rattle.bench.specs.Course.{noted}
 use Rattle.bench.proofs.Turns.{one_more_noted}
 use Rattle.bench.proofs.note.Goals as goal
 
@@ -28,7 +28,7 @@ pub loop-i-smaller : goal.loop-i-smaller
 loop-i-smaller c = omega arith
 
 pub loop-i-preserved : goal.loop-i-preserved
-loop-i-preserved c = 
+loop-i-preserved c =
     let a = c.args in
     let next = one_more_noted a.log.now a.ends.now _ _ _ _ _ c.loop-i.invariant.1 c.byte_at.ensures c.end_of.ensures in
     (omega arith, next, overwritten_length _ _ _ _ next)
@@ -38,6 +38,6 @@ shape_of-ends c = c.loop-i.invariant.2
 
 pub returns : goal.returns
 unfolding noted
-returns c = 
+returns c =
     let end : c.loop-i.i ≡ length c.args.ends.now = omega arith in
     rw end at c.loop-i.invariant.1

@@ -1,6 +1,6 @@
 -- `bench::report` meets its contract, by each answer to who runs.
 use Rattle.bench.proofs.Reports.{runs_in, told_reports}
-use Rattle.std.proofs.Common.{refl, rules}
+use Rattle.std.proofs.Common.{refl}
 use Rattle.basis.specs.Answer.{refusal, none}
 use Rattle.run.specs.Who.{runner_answer}
 use Rattle.bench.specs.Course.{report_of}

@@ -1,5 +1,5 @@
 -- `bench::report_of` meets its contract.
-use Rattle.std.proofs.Common.{◌-◌, arith, rules}
+use Rattle.std.proofs.Common.{◌-◌, arith}
 use Rattle.run.specs.State.{job_of}
 use Rattle.bench.proofs.Reports.{used_most, stands_at, report_none, report_finished, report_working}
 use Rattle.bench.proofs.report_of.Goals as goal

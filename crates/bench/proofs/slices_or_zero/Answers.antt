@@ -1,6 +1,5 @@
 -- `bench::slices_or_zero` meets its contract, case by case.
 use Rattle.units.specs.Conversion.{slices_of}
-use Rattle.std.proofs.Common.{rules}
 use Rattle.bench.proofs.slices_or_zero.Goals as goal
 
 pub returns-in-Count : goal.returns-in-Count

@@ -1,11 +1,11 @@
 -- `bench::task_in` meets its contract.
 use Rattle.bench.specs.Drive.{task_in}
-use Rattle.std.proofs.Common.{refl, rules}
+use Rattle.std.proofs.Common.{refl}
 use Rattle.bench.proofs.task_in.Goals as goal
 
 pub returns : goal.returns
 unfolding task_in
-returns c = 
+returns c =
     rw (
       c.slices_or_zero-due.ensures,
       c.deadline_slices.ensures,

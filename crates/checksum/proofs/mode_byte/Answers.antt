@@ -1,6 +1,5 @@
 -- `mode_byte` meets its contract, case by case.
 use Rattle.checksum.specs.Checksum.{mode_byte}
-use borrow.Author.Rules.{rules}
 use Rattle.checksum.proofs.mode_byte.Goals as goal
 
 pub returns-in-Table : goal.returns-in-Table

@@ -1,6 +1,5 @@
 -- `of_bytes` meets its contract.
 use Rattle.checksum.specs.Checksum.{of_bytes}
-use borrow.Author.Rules.{rules}
 use Rattle.checksum.proofs.of_bytes.Goals as goal
 
 pub returns : goal.returns

@@ -1,6 +1,5 @@
 -- `of_state` meets its contract: field by field.
 use Rattle.checksum.specs.Checksum.{of_numbers, of_state}
-use borrow.Author.Rules.{rules}
 use Rattle.checksum.proofs.of_state.Goals as goal
 
 pub returns : goal.returns

@@ -1,5 +1,4 @@
 -- `with_byte` meets its contract: the exclusive or of two words is a word.
-use borrow.Author.Rules.{rules}
 use native.Mathlib.Omega.{arith}
 use mathlib.Core.Path.{refl}
 use lib.Bits.{xor_lt}

@@ -2,10 +2,7 @@
 use Prim.Native.Nat.{◌≤◌, ◌-◌}
 use lib.ListN.{length}
 use Rattle.checksum.specs.Checksum.{over_bytes}
-use borrow.Author.Rules.{rules}
-use mathlib.Core.Path.{◌≡◌, refl}
-use native.Mathlib.Numerals.{add-one}
-use native.Mathlib.Omega.{arith}
+use mathlib.Core.Path.{◌≡◌}
 use Rattle.checksum.proofs.with_bytes.Given as goal
 
 abbrev pub invariant-loop-i : goal.invariant-loop-i

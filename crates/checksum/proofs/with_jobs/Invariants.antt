@@ -1,12 +1,7 @@
 -- `with_jobs` meets its contract: place by place.
-use mathlib.Core.Bool.{Bool, true, false}
-use mir.Val.{bool_byte}
 use Prim.Native.Nat.{◌≤◌, ◌-◌}
-use Rattle.checksum.specs.Checksum.{over_jobs, ended_byte}
-use borrow.Author.Rules.{rules}
-use mathlib.Core.Path.{◌≡◌, refl}
-use native.Mathlib.Numerals.{add-one}
-use native.Mathlib.Omega.{arith}
+use Rattle.checksum.specs.Checksum.{over_jobs}
+use mathlib.Core.Path.{◌≡◌}
 use Rattle.checksum.proofs.with_jobs.Given as goal
 
 abbrev pub invariant-loop-i : goal.invariant-loop-i

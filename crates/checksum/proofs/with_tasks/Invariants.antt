@@ -1,10 +1,7 @@
 -- `with_tasks` meets its contract: place by place.
 use Prim.Native.Nat.{◌≤◌, ◌-◌}
 use Rattle.checksum.specs.Checksum.{over_tasks}
-use borrow.Author.Rules.{rules}
-use mathlib.Core.Path.{◌≡◌, refl}
-use native.Mathlib.Numerals.{add-one}
-use native.Mathlib.Omega.{arith}
+use mathlib.Core.Path.{◌≡◌}
 use Rattle.checksum.proofs.with_tasks.Given as goal
 
 abbrev pub invariant-loop-i : goal.invariant-loop-i

@@ -1,6 +1,5 @@
 -- `with_word` meets its contract: byte by byte.
 use Rattle.checksum.specs.Checksum.{over_word}
-use borrow.Author.Rules.{rules}
 use Rattle.checksum.proofs.with_word.Goals as goal
 
 pub returns : goal.returns

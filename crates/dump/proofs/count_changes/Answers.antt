@@ -1,8 +1,7 @@
 -- `dump::count_changes` meets its contract, slice by slice.
-use Prim.Native.Nat.{◌+◌, ◌-◌, ◌≤◌}
+use Prim.Native.Nat.{◌+◌}
 use mathlib.Core.Path.{◌≡◌, refl}
 use native.Mathlib.Omega.{arith}
-use borrow.Author.Rules.{rules}
 use Rattle.dump.specs.Shapes.{entry_before, count_to}
 use Rattle.dump.specs.Lengths.{count_few}
 use Rattle.dump.proofs.Turns.{before_next, count_more}
@@ -16,7 +15,7 @@ pub bounds-run-t : goal.bounds-run-t
 bounds-run-t c = omega arith
 
 pub overflow_add-count : goal.overflow_add-count
-overflow_add-count c = 
+overflow_add-count c =
     let turn = c.loop-t in
     let run = c.args.run.now in
     record {
@@ -34,12 +33,12 @@ pub loop-t-smaller : goal.loop-t-smaller
 loop-t-smaller c = omega arith
 
 pub loop-t-preserved : goal.loop-t-preserved
-loop-t-preserved c = 
+loop-t-preserved c =
     let turn = c.loop-t in
     (omega arith, before_next _ _, count_more _ _ turn.invariant.1 turn.invariant.2 c.changed-count.ensures)
 
 pub returns : goal.returns
-returns c = 
+returns c =
     let last = c.loop-t in
     let args = c.args in
     let end : last.t ≡ args.slices = omega arith in

@@ -1,15 +1,11 @@
 -- `dump::count_changes` meets its contract, slice by slice.
-use Prim.Native.Nat.{◌+◌, ◌-◌, ◌≤◌}
-use mathlib.Core.Path.{◌≡◌, refl}
-use native.Mathlib.Omega.{arith}
-use borrow.Author.Rules.{rules}
+use Prim.Native.Nat.{◌-◌, ◌≤◌}
+use mathlib.Core.Path.{◌≡◌}
 use Rattle.dump.specs.Shapes.{entry_before, count_to}
-use Rattle.dump.specs.Lengths.{count_few}
-use Rattle.dump.proofs.Turns.{before_next, count_more}
 use Rattle.dump.proofs.count_changes.Given as goal
 
 abbrev pub invariant-loop-t : goal.invariant-loop-t
-invariant-loop-t l = 
+invariant-loop-t l =
     (l.t ≤ l.slices) × (l.before ≡ entry_before l.run l.t) × (l.count ≡ count_to l.run l.t)
 
 abbrev pub decreases-loop-t : goal.decreases-loop-t

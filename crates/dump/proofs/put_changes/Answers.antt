@@ -1,8 +1,6 @@
 -- `dump::put_changes` meets its contract, slice by slice.
-use Prim.Native.Nat.{◌-◌, ◌≤◌}
 use mathlib.Core.Path.{◌≡◌, refl}
 use native.Mathlib.Omega.{arith}
-use Rattle.printing.specs.Shapes.{Put}
 use Rattle.printing.proofs.Chain.{put_nothing, put-length}
 use Rattle.dump.specs.Shapes.{entry_before, changes_to}
 use Rattle.dump.proofs.Turns.{before_next, change_room, change_more}
@@ -19,7 +17,7 @@ pub overflow_cast-t : goal.overflow_cast-t
 overflow_cast-t c = omega arith
 
 pub put_change-after-requires : goal.put_change-after-requires
-put_change-after-requires c = 
+put_change-after-requires c =
     let turn = c.loop-t in
     change_room _ _ turn.invariant.1 _ c.requires.room_in turn.invariant.2 c.loop-t-test.true
 
@@ -30,7 +28,7 @@ pub loop-t-smaller : goal.loop-t-smaller
 loop-t-smaller c = omega arith
 
 pub loop-t-preserved : goal.loop-t-preserved
-loop-t-preserved c = 
+loop-t-preserved c =
     let turn = c.loop-t in
     (omega arith, before_next _ _, change_more _ _ turn.invariant.1 turn.invariant.2 c.put_change-after.ensures)
 
@@ -38,6 +36,6 @@ pub shape_of-out : goal.shape_of-out
 shape_of-out c = put-length c.loop-t.invariant.2
 
 pub returns : goal.returns
-returns c = 
+returns c =
     let end : c.loop-t.t ≡ c.args.slices = omega arith in
     rw end at c.loop-t.invariant.2

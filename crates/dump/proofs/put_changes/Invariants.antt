@@ -1,15 +1,12 @@
 -- `dump::put_changes` meets its contract, slice by slice.
 use Prim.Native.Nat.{◌-◌, ◌≤◌}
-use mathlib.Core.Path.{◌≡◌, refl}
-use native.Mathlib.Omega.{arith}
+use mathlib.Core.Path.{◌≡◌}
 use Rattle.printing.specs.Shapes.{Put}
-use Rattle.printing.proofs.Chain.{put_nothing, put-length}
 use Rattle.dump.specs.Shapes.{entry_before, changes_to}
-use Rattle.dump.proofs.Turns.{before_next, change_room, change_more}
 use Rattle.dump.proofs.put_changes.Given as goal
 
 abbrev pub invariant-loop-t : goal.invariant-loop-t
-invariant-loop-t l = 
+invariant-loop-t l =
     (l.t ≤ l.slices) × (l.before ≡ entry_before l.run l.t) × Put (changes_to l.run l.t) l.at l.initial.out l.out l.next
 
 abbrev pub decreases-loop-t : goal.decreases-loop-t

@@ -1,9 +1,6 @@
 -- `dump::put_text` meets its contract, byte by byte.
-use Prim.Native.Nat.{◌-◌, ◌+◌, ◌≤◌}
 use mathlib.Core.Path.{refl}
 use native.Mathlib.Omega.{arith}
-use lib.ListN.{length, take}
-use Rattle.printing.specs.Shapes.{Put}
 use Rattle.printing.proofs.Chain.{put-length, put_all}
 use Rattle.dump.proofs.Places.{byte_room, byte_more}
 use Rattle.dump.proofs.put_text.Goals as goal

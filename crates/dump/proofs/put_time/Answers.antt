@@ -1,5 +1,4 @@
 -- `dump::put_time` meets its contract: the line is put as a text.
-use borrow.Author.Rules.{rules}
 use Rattle.printing.specs.Text.{digit}
 use Rattle.vcd.specs.Form.{time_line}
 use Rattle.dump.proofs.put_time.Goals as goal

@@ -1,5 +1,4 @@
 -- `dump::put_value` meets its contract: the line is put as a text.
-use borrow.Author.Rules.{rules}
 use Rattle.printing.specs.Text.{digit}
 use Rattle.vcd.specs.Form.{value_line}
 use Rattle.dump.proofs.put_value.Goals as goal

@@ -1,5 +1,4 @@
 -- `dump::write` meets its contract.
-use borrow.Author.Rules.{rules}
 use Rattle.dump.proofs.Whole.{wrote_all, wrote_nothing}
 use Rattle.dump.proofs.write.Goals as goal
 
@@ -7,5 +6,5 @@ pub returns-then-out-needed : goal.returns-then-out-needed
 returns-then-out-needed c = wrote_nothing _ c.slices_of-slices.ensures c.text_length-needed.ensures c.if-out-needed.true
 
 pub returns : goal.returns
-returns c = 
+returns c =
     wrote_all _ c.slices_of-slices.ensures c.text_length-needed.ensures c.if-out-needed.false c.put_run.ensures

@@ -1,5 +1,4 @@
 -- `explain::entries_to` meets its contract: the first n entries are tested.
-use Prim.Native.Nat.{◌≤◌, ◌-◌}
 use mathlib.Core.Path.{◌≡◌, refl}
 use native.Mathlib.Omega.{arith}
 use native.Mathlib.Numerals.{add-one}

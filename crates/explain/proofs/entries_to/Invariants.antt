@@ -1,8 +1,6 @@
 -- `explain::entries_to` meets its contract: the first n entries are tested.
 use Prim.Native.Nat.{◌≤◌, ◌-◌}
-use mathlib.Core.Path.{◌≡◌, refl}
-use native.Mathlib.Omega.{arith}
-use native.Mathlib.Numerals.{add-one}
+use mathlib.Core.Path.{◌≡◌}
 use lib.ListN.{length}
 use Rattle.explain.specs.Seen.{entries_to}
 use Rattle.explain.proofs.entries_to.Given as goal

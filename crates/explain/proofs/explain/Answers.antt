@@ -1,6 +1,5 @@
 -- `explain::explain` meets its contract.
 use native.Mathlib.Omega.{arith}
-use borrow.Author.Rules.{rules}
 use borrow.Author.Tests.{not-true, not-false}
 use Rattle.explain.proofs.Answers.{run_refused, run_seen, needs_room, run_not_led, run_led}
 use Rattle.explain.proofs.explain.Goals as goal

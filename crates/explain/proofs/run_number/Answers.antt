@@ -1,10 +1,8 @@
 -- `explain::run_number` meets its contract.
 use mathlib.Core.Path.{sym, ◌∙◌}
-use borrow.Author.Rules.{rules}
 use borrow.Author.Tests.{not-true, not-false}
 use native.Mathlib.Omega.{arith}
 use Rattle.explain.proofs.Answers.{other_length, entry_above, too_short, all_passed}
-use borrow.Author.Rules.{rules}
 use Rattle.explain.proofs.run_number.Goals as goal
 
 pub returns-then-run-cycle : goal.returns-then-run-cycle

@@ -1,7 +1,6 @@
 -- `ask_list` meets its contract: lists alike have one quick answer.
 use mathlib.Core.Path.{◌∙◌}
 use native.Mathlib.Omega.{arith}
-use borrow.Author.Rules.{rules}
 use Rattle.lent.specs.Lent.{first_alike, quick_alike}
 use Rattle.lent.proofs.ask_list.Goals as goal
 

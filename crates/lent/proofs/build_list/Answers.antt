@@ -1,6 +1,5 @@
 -- `build_list` meets its contract: what is built of a list alike is built of the list.
 use native.Mathlib.Omega.{arith}
-use borrow.Author.Rules.{rules}
 use Rattle.lent.specs.Lent.{first_alike, built_alike}
 use Rattle.lent.proofs.build_list.Goals as goal
 

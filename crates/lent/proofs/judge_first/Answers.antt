@@ -1,5 +1,5 @@
 -- `lent::judge_first` meets its contract: the records that are lent make the list of the first so many places.
-use Rattle.std.proofs.Common.{◌≡◌, length, rules, ap, subst, ◌∙◌}
+use Rattle.std.proofs.Common.{◌≡◌, length, rules, ap, ◌∙◌}
 use Rattle.tasks.specs.declared.TaskList.{TaskList}
 use Rattle.verdict.specs.Verdict.{verdict_of}
 use Rattle.lent.specs.Shapes.{filled_first}

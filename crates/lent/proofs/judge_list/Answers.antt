@@ -1,7 +1,6 @@
 -- `judge_list` meets its contract: lists alike have one verdict.
 use mathlib.Core.Path.{◌∙◌}
 use native.Mathlib.Omega.{arith}
-use borrow.Author.Rules.{rules}
 use Rattle.lent.specs.Lent.{first_alike, verdict_alike}
 use Rattle.lent.proofs.judge_list.Goals as goal
 

@@ -1,5 +1,5 @@
 -- `lent::start_first` meets its contract: the records that are lent make the list of the first so many places.
-use Rattle.std.proofs.Common.{◌≡◌, length, rules, ap, subst, ◌∙◌}
+use Rattle.std.proofs.Common.{◌≡◌, length, rules, subst}
 use Rattle.tasks.specs.declared.TaskList.{TaskList}
 use Rattle.start.specs.Start.{Begins}
 use Rattle.lent.specs.Shapes.{filled_first}

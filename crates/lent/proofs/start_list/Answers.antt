@@ -1,6 +1,5 @@
 -- `start_list` meets its contract: a start with a list alike is a start with the list.
 use native.Mathlib.Omega.{arith}
-use borrow.Author.Rules.{rules}
 use Rattle.lent.specs.Lent.{first_alike, begins_alike}
 use Rattle.lent.proofs.start_list.Goals as goal
 

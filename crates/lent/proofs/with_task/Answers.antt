@@ -1,6 +1,5 @@
 -- `with_task` meets its contract by computation.
 use mathlib.Core.Path.{refl}
-use borrow.Author.Rules.{rules}
 use Rattle.lent.specs.Shapes.{with_task}
 use Rattle.lent.proofs.with_task.Goals as goal
 

@@ -1,6 +1,5 @@
 -- `explain_list` meets its contract: what explains a file by a list alike explains it by the list.
 use native.Mathlib.Omega.{arith}
-use borrow.Author.Rules.{rules}
 use Rattle.lent.specs.Lent.{first_alike}
 use Rattle.lent_viewer.specs.Alike.{explains_alike}
 use Rattle.lent_viewer.proofs.explain_list.Goals as goal

@@ -1,6 +1,5 @@
 -- `read_list` meets its contract: what is read back of a list alike is read back of the list.
 use native.Mathlib.Omega.{arith}
-use borrow.Author.Rules.{rules}
 use Rattle.lent.specs.Lent.{first_alike}
 use Rattle.lent_viewer.specs.Alike.{reads_alike}
 use Rattle.lent_viewer.proofs.read_list.Goals as goal

@@ -1,6 +1,5 @@
 -- `write_list` meets its contract: what is written of a list alike is written of the list.
 use native.Mathlib.Omega.{arith}
-use borrow.Author.Rules.{rules}
 use Rattle.lent.specs.Lent.{first_alike}
 use Rattle.lent_viewer.specs.Alike.{writes_alike}
 use Rattle.lent_viewer.proofs.write_list.Goals as goal

@@ -1,7 +1,6 @@
 -- `printing::number_at` meets its contract.
 use lib.ListN.{get_or-eq_default}
 use mathlib.Core.Path.{sym}
-use borrow.Author.Rules.{rules}
 use Rattle.printing.proofs.number_at.Goals as goal
 
 pub returns-else-i-numbers : goal.returns-else-i-numbers

@@ -2,7 +2,6 @@
 use mathlib.Core.Path.{sym}
 use native.Mathlib.Omega.{arith}
 use lib.Seq.{set_out}
-use borrow.Author.Rules.{rules}
 use Rattle.printing.proofs.put.Goals as goal
 
 pub returns-else-at-out : goal.returns-else-at-out

@@ -1,5 +1,4 @@
 -- `printing::put_field` meets its contract.
-use borrow.Author.Rules.{rules}
 use Rattle.printing.specs.Text.{ascii, field}
 use Rattle.printing.proofs.Chain.{chain, room_first, room_next}
 use Rattle.printing.proofs.put_field.Goals as goal

@@ -1,13 +1,7 @@
 -- `printing::put_jobs` meets its contract, job by job.
 use Prim.Native.Nat.{◌-◌, ◌≤◌}
-use mathlib.Core.Path.{◌≡◌}
-use native.Mathlib.Omega.{arith}
-use native.Mathlib.Numerals.{add-one}
-use borrow.Author.Rules.{rules}
 use Rattle.printing.specs.Text.{job_records}
 use Rattle.printing.specs.Shapes.{Put}
-use Rattle.printing.proofs.Chain.{put_nothing, put-length, chain}
-use Rattle.printing.proofs.Rooms.{job_room}
 use Rattle.printing.proofs.put_jobs.Given as goal
 
 abbrev pub invariant-loop-k : goal.invariant-loop-k

@@ -1,7 +1,6 @@
 -- `printing::put_need` meets its contract.
 use Rattle.printing.specs.Text.{need_record}
 use Rattle.printing.proofs.Chain.{chain, room_first, room_next}
-use borrow.Author.Rules.{rules}
 use Rattle.printing.proofs.put_need.Goals as goal
 
 pub put_field-next-requires : goal.put_field-next-requires

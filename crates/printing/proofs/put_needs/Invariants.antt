@@ -1,15 +1,10 @@
 -- `printing::put_needs` meets its contract, task by task.
 use Prim.Native.Nat.{◌-◌, ◌≤◌}
 use mathlib.Core.Path.{◌≡◌}
-use native.Mathlib.Omega.{arith}
-use native.Mathlib.Numerals.{add-one}
 use lib.ListN.{get_or}
-use borrow.Author.Rules.{rules}
 use Rattle.basis.specs.Sum.{sum}
 use Rattle.printing.specs.Text.{need_records}
 use Rattle.printing.specs.Shapes.{Put}
-use Rattle.printing.proofs.Chain.{put_nothing, put-length, chain}
-use Rattle.printing.proofs.Rooms.{task_room, place_fits}
 use Rattle.printing.proofs.put_needs.Given as goal
 
 abbrev pub invariant-loop-i : goal.invariant-loop-i

@@ -1,5 +1,4 @@
 -- `printing::put_pair` meets its contract.
-use borrow.Author.Rules.{rules}
 use Rattle.printing.specs.Text.{ascii, crlf, pair_record}
 use Rattle.printing.proofs.Chain.{chain, room_first, room_next}
 use Rattle.printing.proofs.put_pair.Goals as goal

@@ -1,5 +1,4 @@
 -- `printing::put_refusal` meets its contract.
-use borrow.Author.Rules.{rules}
 use Rattle.printing.specs.Text.{ascii, crlf, refusal_record}
 use Rattle.printing.proofs.Chain.{chain, room_first, room_next}
 use Rattle.printing.proofs.Signed.{back32}

@@ -1,6 +1,5 @@
 -- `printing::put_signed` meets its contract.
 use mathlib.Core.List.{[], ◌∷◌}
-use borrow.Author.Rules.{rules}
 use Rattle.printing.proofs.Chain.{chain, room_first, room_next}
 use Rattle.printing.proofs.Signed.{fits64, less_fits, less_as_u64, as_u64, text_below, text_above}
 use Rattle.printing.proofs.put_signed.Goals as goal

@@ -1,10 +1,8 @@
 -- `printing::put_slices` meets its contract, slice by slice.
-use Prim.Native.Nat.{◌-◌, ◌≤◌}
 use mathlib.Core.Path.{◌≡◌}
 use native.Mathlib.Omega.{arith}
 use native.Mathlib.Numerals.{add-one}
 use Rattle.printing.specs.Text.{records_to}
-use Rattle.printing.specs.Shapes.{Put}
 use Rattle.printing.proofs.Chain.{put_nothing, put-length, chain}
 use Rattle.printing.proofs.Rooms.{slice_room}
 use Rattle.printing.proofs.put_slices.Goals as goal

@@ -1,9 +1,7 @@
 -- `printing::put_text` meets its contract, byte by byte.
 use Prim.Native.Nat.{◌-◌, ◌≤◌}
-use native.Mathlib.Omega.{arith}
 use lib.ListN.{length, take}
 use Rattle.printing.specs.Shapes.{Put}
-use Rattle.printing.proofs.Chain.{put_nothing, put-length, put_more, room_more, put_all}
 use Rattle.printing.proofs.put_text.Given as goal
 
 abbrev pub invariant-loop-i : goal.invariant-loop-i

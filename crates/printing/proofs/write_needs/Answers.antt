@@ -3,7 +3,6 @@ use native.Mathlib.Omega.{arith}
 use Rattle.printing.specs.Text.{ascii, crlf, needs_header, needs_text}
 use Rattle.printing.proofs.Chain.{chain, put_whole}
 use Rattle.printing.proofs.Rooms.{needs_room, needs_room_enough}
-use borrow.Author.Rules.{rules}
 use Rattle.printing.proofs.write_needs.Goals as goal
 
 pub put_needs-requires : goal.put_needs-requires

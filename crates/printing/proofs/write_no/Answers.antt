@@ -1,7 +1,6 @@
 -- `printing::write_no` meets its contract.
 use Rattle.printing.specs.Text.{ascii, crlf, no_text}
 use Rattle.printing.proofs.Chain.{put_whole}
-use borrow.Author.Rules.{rules}
 use Rattle.printing.proofs.write_no.Goals as goal
 
 pub returns : goal.returns

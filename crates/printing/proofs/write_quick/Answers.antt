@@ -1,6 +1,5 @@
 -- `printing::write_quick` meets its contract.
 use native.Mathlib.Omega.{arith}
-use borrow.Author.Rules.{rules}
 use Rattle.printing.specs.Text.{ascii, crlf, quick_header, quick_text}
 use Rattle.printing.proofs.Chain.{chain, put_whole}
 use Rattle.printing.proofs.Rooms.{pair_room, quick_room_enough}

@@ -1,5 +1,4 @@
 -- `printing::write_refusal` meets its contract.
-use borrow.Author.Rules.{rules}
 use Rattle.printing.specs.Text.{ascii, crlf, refusal_header, refusal_text}
 use Rattle.printing.proofs.Chain.{chain, put_whole}
 use Rattle.printing.proofs.Rooms.{refusal_room, refusal_room_enough}

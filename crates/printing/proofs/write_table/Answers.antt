@@ -1,6 +1,5 @@
 -- `printing::write_table` meets its contract.
 use native.Mathlib.Omega.{arith}
-use borrow.Author.Rules.{rules}
 use Rattle.printing.specs.Text.{ascii, crlf, table_header, table_text}
 use Rattle.printing.proofs.Chain.{chain, put_whole}
 use Rattle.printing.proofs.Rooms.{table_room, table_room_enough, cycle_records}

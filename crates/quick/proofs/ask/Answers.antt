@@ -1,6 +1,5 @@
 -- `quick::ask` meets its contract.
 use mathlib.Core.Path.{sym, ◌∙◌}
-use borrow.Author.Rules.{rules}
 use Rattle.quick.proofs.Answers.{broken, kept_bounded, kept}
 use Rattle.quick.proofs.ask.Goals as goal
 

@@ -1,7 +1,6 @@
 -- `quick::try_points` meets its contract.
 use mathlib.Core.Path.{◌≡◌}
 use native.Mathlib.Omega.{arith}
-use borrow.Author.Rules.{rules}
 use Rattle.quick.proofs.Answers.{task_below, level, round, answer_accepted, answer_refused}
 use Rattle.quick.proofs.try_points.Goals as goal
 

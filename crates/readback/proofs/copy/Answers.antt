@@ -1,7 +1,7 @@
 -- `readback::copy` meets its contract: the entries before slice t are copied.
-use Rattle.std.proofs.Common.{◌≡◌, ◌-◌, ◌≤◌, refl, arith, le-leb}
+use Rattle.std.proofs.Common.{◌≡◌, refl, arith, le-leb}
 use borrow.Author.Tests.{lt-leb}
-use Rattle.basis.specs.Bytes.{at, overwrite, overwritten_length, overwrite_next}
+use Rattle.basis.specs.Bytes.{overwrite, overwritten_length, overwrite_next}
 use Rattle.basis.specs.Choose.{yes_so, no_so}
 use Rattle.readback.proofs.copy.Goals as goal
 
@@ -31,6 +31,6 @@ pub shape_of-out : goal.shape_of-out
 shape_of-out c = overwritten_length _ _ _ _ c.loop-t.invariant.1
 
 pub returns : goal.returns
-returns c = 
+returns c =
     let end : c.loop-t.t ≡ c.args.count = omega arith in
     yes_so _ _ _ _ (le-leb _ _ c.if-count-out.false) (rw end at c.loop-t.invariant.1)

@@ -1,8 +1,6 @@
 -- `readback::copy` meets its contract: the entries before slice t are copied.
-use Rattle.std.proofs.Common.{◌≡◌, ◌-◌, ◌≤◌, refl, arith, le-leb}
-use borrow.Author.Tests.{lt-leb}
-use Rattle.basis.specs.Bytes.{at, overwrite, overwritten_length, overwrite_next}
-use Rattle.basis.specs.Choose.{yes_so, no_so}
+use Rattle.std.proofs.Common.{◌≡◌, ◌-◌, ◌≤◌}
+use Rattle.basis.specs.Bytes.{at, overwrite}
 use Rattle.readback.proofs.copy.Given as goal
 
 abbrev pub invariant-loop-t : goal.invariant-loop-t

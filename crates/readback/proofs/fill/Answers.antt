@@ -1,6 +1,5 @@
 -- `readback::fill` meets its contract: the entries before slice s stand.
-use Rattle.std.proofs.Common.{◌≡◌, ◌-◌, ◌≤◌, arith}
-use Rattle.readback.specs.Shapes.{Filled}
+use Rattle.std.proofs.Common.{◌≡◌, arith}
 use Rattle.readback.proofs.Bytes.{filled_none, filled_more}
 use Rattle.readback.proofs.fill.Goals as goal
 

@@ -1,7 +1,6 @@
 -- `readback::fill` meets its contract: the entries before slice s stand.
-use Rattle.std.proofs.Common.{◌≡◌, ◌-◌, ◌≤◌, arith}
+use Rattle.std.proofs.Common.{◌-◌, ◌≤◌}
 use Rattle.readback.specs.Shapes.{Filled}
-use Rattle.readback.proofs.Bytes.{filled_none, filled_more}
 use Rattle.readback.proofs.fill.Given as goal
 
 abbrev pub invariant-loop-s : goal.invariant-loop-s

@@ -1,5 +1,5 @@
 -- `readback::read` meets its contract.
-use Rattle.std.proofs.Common.{refl, rules}
+use Rattle.std.proofs.Common.{refl}
 use Rattle.printing.specs.Text.{ascii, digit}
 use Rattle.vcd.specs.Form.{header, time_line}
 use Rattle.vcd.specs.Follows.{beginning}

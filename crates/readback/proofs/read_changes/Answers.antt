@@ -1,8 +1,8 @@
 -- `readback::read_changes` meets its contract: the file up to a place is the text of the entries before slice t.
-use Rattle.std.proofs.Common.{◌≡◌, ◌-◌, length, take, refl, arith}
+use Rattle.std.proofs.Common.{◌≡◌, refl, arith}
 use Rattle.readback.specs.Shapes.{ReadAside}
 use Rattle.readback.proofs.Steps.{whole_is}
-use Rattle.readback.proofs.Changes.{Stands, begins, value_stuck, stuck_behind_value, one_more, whole_run, last_stuck}
+use Rattle.readback.proofs.Changes.{begins, value_stuck, stuck_behind_value, one_more, whole_run, last_stuck}
 use Rattle.readback.proofs.read_changes.Goals as goal
 
 pub loop-t-init : goal.loop-t-init
@@ -40,7 +40,7 @@ returns-then-next-lt6 c = stuck_behind_value c.loop-t.invariant.0 c.value_at-val
     c.if-value-lt9.false c.time_at-next.ensures c.if-next-lt6.true
 
 pub fill-requires : goal.fill-requires
-fill-requires c = 
+fill-requires c =
     let later = whole_is _ _ _ _ c.time_at-next.ensures c.if-next-lt6.false in (
       omega (arith, later.from),
       later.to,
@@ -57,7 +57,7 @@ overflow_cast-result c = omega (arith, (whole_is _ _ _ _ c.time_at-next.ensures 
 
 pub returns-then-at-file : goal.returns-then-at-file
 unfolding ReadAside
-returns-then-at-file c = 
+returns-then-at-file c =
     let now = one_more c.loop-t.invariant.0
     c.value_at-value.ensures c.if-value-lt9.false
     c.time_at-next.ensures c.if-next-lt6.false refl c.fill.ensures in (

@@ -1,8 +1,6 @@
 -- `readback::read_changes` meets its contract: the file up to a place is the text of the entries before slice t.
-use Rattle.std.proofs.Common.{◌≡◌, ◌-◌, length, take, refl, arith}
-use Rattle.readback.specs.Shapes.{ReadAside}
-use Rattle.readback.proofs.Steps.{whole_is}
-use Rattle.readback.proofs.Changes.{Stands, begins, value_stuck, stuck_behind_value, one_more, whole_run, last_stuck}
+use Rattle.std.proofs.Common.{◌≡◌, ◌-◌, length, take}
+use Rattle.readback.proofs.Changes.{Stands}
 use Rattle.readback.proofs.read_changes.Given as goal
 
 abbrev pub invariant-loop-t : goal.invariant-loop-t

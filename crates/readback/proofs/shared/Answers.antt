@@ -1,6 +1,6 @@
 -- `readback::shared` meets its contract: the first i bytes agree.
-use Rattle.std.proofs.Common.{◌-◌, length, sym, ◌∙◌, arith, rules}
-use Rattle.readback.proofs.Bytes.{Agree, agree_none, agree_more, agree_cut, agree_whole}
+use Rattle.std.proofs.Common.{sym, ◌∙◌, arith}
+use Rattle.readback.proofs.Bytes.{agree_none, agree_more, agree_cut, agree_whole}
 use Rattle.readback.proofs.shared.Goals as goal
 
 pub loop-i-init : goal.loop-i-init
@@ -16,7 +16,7 @@ pub loop-i-smaller : goal.loop-i-smaller
 loop-i-smaller c = omega arith
 
 pub loop-i-preserved : goal.loop-i-preserved
-loop-i-preserved c = 
+loop-i-preserved c =
     agree_more _ _ _ c.loop-i.invariant c.loop-i-test.true
     (omega (arith, c.shared_slice_known-1.given c.loop-i.i))
     (sym c.byte_at.ensures ∙ c.if-byte_at.false ∙ c.byte_at-in-loop-i.ensures)

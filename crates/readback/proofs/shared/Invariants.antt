@@ -1,6 +1,6 @@
 -- `readback::shared` meets its contract: the first i bytes agree.
-use Rattle.std.proofs.Common.{◌-◌, length, sym, ◌∙◌, arith, rules}
-use Rattle.readback.proofs.Bytes.{Agree, agree_none, agree_more, agree_cut, agree_whole}
+use Rattle.std.proofs.Common.{◌-◌, length}
+use Rattle.readback.proofs.Bytes.{Agree}
 use Rattle.readback.proofs.shared.Given as goal
 
 abbrev pub invariant-loop-i : goal.invariant-loop-i

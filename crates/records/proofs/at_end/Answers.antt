@@ -1,7 +1,6 @@
 -- `records::at_end` meets its contract.
 use Rattle.basis.specs.Choose.{cases}
 use Rattle.records.specs.Shapes.{at_end}
-use borrow.Author.Rules.{rules}
 use Rattle.records.proofs.at_end.Goals as goal
 
 pub returns-then-line : goal.returns-then-line

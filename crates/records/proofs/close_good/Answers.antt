@@ -5,7 +5,6 @@ use Rattle.basis.specs.Choose.{yes_so, no_so}
 use Rattle.tasks.specs.declared.TaskList.{TaskList}
 use Rattle.records.specs.declared.Form.TheVariants.{Good, Bad}
 use Rattle.records.specs.Shapes.{kept, close_good}
-use borrow.Author.Rules.{rules}
 use Rattle.records.proofs.close_good.Goals as goal
 
 pub returns-then-closed-line : goal.returns-then-closed-line

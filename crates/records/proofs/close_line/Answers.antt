@@ -1,7 +1,6 @@
 -- `records::close_line` meets its contract.
 use mathlib.Core.Path.{sym}
 use Rattle.records.specs.Shapes.{good_closes, bad_stays}
-use borrow.Author.Rules.{rules}
 use Rattle.records.proofs.close_line.Goals as goal
 
 pub returns-in-Good : goal.returns-in-Good

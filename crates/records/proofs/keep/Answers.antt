@@ -1,7 +1,6 @@
 -- `records::keep` meets its contract.
 use Rattle.basis.specs.Choose.{cases}
 use Rattle.records.specs.Shapes.{kept}
-use borrow.Author.Rules.{rules}
 use Rattle.records.proofs.keep.Goals as goal
 
 pub returns-then-count-lt16 : goal.returns-then-count-lt16

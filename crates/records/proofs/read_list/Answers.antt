@@ -1,9 +1,7 @@
 -- `records::read_list` meets its contract: after i bytes, what is left to read comes to the same answer as the whole input.
-use Prim.Native.Nat.{◌-◌}
 use mathlib.Core.Path.{sym, ◌∙◌}
 use native.Mathlib.Omega.{arith}
-use lib.ListN.{length}
-use Rattle.records.proofs.Turns.{Reached, no_byte_yet, pair_inside, line_ends, line_goes_on, no_byte_more}
+use Rattle.records.proofs.Turns.{no_byte_yet, pair_inside, line_ends, line_goes_on, no_byte_more}
 use Rattle.records.proofs.read_list.Goals as goal
 
 pub loop-i-init : goal.loop-i-init

@@ -1,7 +1,6 @@
 -- `records::with_byte` meets its contract.
 use Rattle.basis.specs.Choose.{cases}
 use Rattle.records.specs.Shapes.{with_byte, digit_tells}
-use borrow.Author.Rules.{rules}
 use Rattle.records.proofs.with_byte.Goals as goal
 
 pub returns-then-byte-eq44 : goal.returns-then-byte-eq44

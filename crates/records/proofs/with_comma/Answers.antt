@@ -1,7 +1,6 @@
 -- `records::with_comma` meets its contract.
 use Rattle.basis.specs.Choose.{cases}
 use Rattle.records.specs.Shapes.{with_comma}
-use borrow.Author.Rules.{rules}
 use Rattle.records.proofs.with_comma.Goals as goal
 
 pub returns-then-closed-eq0 : goal.returns-then-closed-eq0

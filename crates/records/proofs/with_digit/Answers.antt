@@ -2,7 +2,6 @@
 use native.Mathlib.Omega.{arith}
 use Rattle.basis.specs.Choose.{cases}
 use Rattle.records.specs.Shapes.{with_digit, not_full}
-use borrow.Author.Rules.{rules}
 use Rattle.records.proofs.with_digit.Goals as goal
 
 pub returns-then-value-line : goal.returns-then-value-line

@@ -1,6 +1,5 @@
 -- `run::place` meets its contract.
-use Rattle.std.proofs.Common.{◌≡◌, ◌+◌, ◌-◌, ◌*◌, ◌/◌, ◌≤◌, sym, refl, ap, ◌∙◌, ap₂, arith, le-ltb, lt-ltb}
-use Rattle.basis.specs.Bytes.{at}
+use Rattle.std.proofs.Common.{◌≡◌, ◌+◌, sym, refl, ap, ◌∙◌, ap₂, arith, le-ltb, lt-ltb}
 use Rattle.basis.specs.Choose.{choose_yes, choose_no}
 use Rattle.basis.specs.Sum.{sum}
 use Rattle.run.specs.State.{place_in}

@@ -1,10 +1,7 @@
 -- `run::place` meets its contract.
-use Rattle.std.proofs.Common.{◌≡◌, ◌+◌, ◌-◌, ◌*◌, ◌/◌, ◌≤◌, sym, refl, ap, ◌∙◌, ap₂, arith, le-ltb, lt-ltb}
+use Rattle.std.proofs.Common.{◌≡◌, ◌-◌, ◌*◌, ◌/◌, ◌≤◌}
 use Rattle.basis.specs.Bytes.{at}
-use Rattle.basis.specs.Choose.{choose_yes, choose_no}
 use Rattle.basis.specs.Sum.{sum}
-use Rattle.run.specs.State.{place_in}
-use Rattle.run.proofs.Turns.{one_more_sum}
 use Rattle.run.proofs.place.Given as goal
 
 abbrev pub invariant-loop-j : goal.invariant-loop-j

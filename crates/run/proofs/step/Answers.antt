@@ -1,5 +1,5 @@
 -- `run::step` meets its contract.
-use Rattle.std.proofs.Common.{arith, rules}
+use Rattle.std.proofs.Common.{arith}
 use Rattle.run.proofs.Answers.{gives_back, position_fits, hands_on}
 use Rattle.run.proofs.step.Goals as goal
 

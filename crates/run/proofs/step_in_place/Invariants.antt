@@ -1,13 +1,9 @@
 -- `run::step_in_place` meets its contract: each way out answers as the laws of Answers say.
-use Rattle.std.proofs.Common.{◌≡◌, ◌-◌, ◌≤◌, refl, ap, div-add-mod', arith}
-use Rattle.basis.specs.Bytes.{at, overwrite}
+use Rattle.std.proofs.Common.{◌≡◌, ◌-◌, ◌≤◌}
 use Rattle.run.specs.declared.Mode.TheVariants.{Table}
-use Rattle.run.specs.declared.State.{State}
-use Rattle.run.specs.State.{period_of}
 use Rattle.run.specs.Step.{state_of}
 use Rattle.run.specs.Shapes.{renewed, late_up_to}
-use Rattle.run.proofs.Served.{deadline_tested, release_tested, renewed_next, late_next}
-use Rattle.run.proofs.Answers.{Closes, still_closes, Passed, step_not_asked, step_refused, passes, ran_most, used_most, result_of_one, result_lies, closing, length_still, step_done}
+use Rattle.run.proofs.Answers.{Closes}
 use Rattle.run.proofs.step_in_place.Given as goal
 
 abbrev pub invariant-loop-i : goal.invariant-loop-i

@@ -1,5 +1,4 @@
 -- `start::clear` meets its contract: the first so many bytes are written over with 0.
-use Prim.Native.Nat.{ℕ, ◌≤◌, ◌-◌}
 use mathlib.Core.Path.{◌≡◌, refl}
 use native.Mathlib.Omega.{arith}
 use Rattle.basis.specs.Bytes.{overwrite, overwrite_next, overwritten_length}
@@ -25,6 +24,6 @@ pub shape_of-log : goal.shape_of-log
 shape_of-log c = overwritten_length _ _ _ _ c.loop-i.invariant.1
 
 pub returns : goal.returns
-returns c = 
+returns c =
     let end : c.loop-i.i ≡ c.args.jobs = omega arith in
     rw end at c.loop-i.invariant.1

@@ -1,6 +1,5 @@
 -- `start::mode_of` meets its contract, case by case.
 use Rattle.start.specs.Start.{mode_of}
-use borrow.Author.Rules.{rules}
 use Rattle.start.proofs.mode_of.Goals as goal
 
 pub returns-in-Table : goal.returns-in-Table

@@ -1,9 +1,8 @@
 -- `start::read` meets its contract.
-use Prim.Native.Nat.{ℕ, ◌≤◌, ◌-◌}
 use mathlib.Core.Path.{◌≡◌, refl}
 use native.Mathlib.Omega.{arith}
 use Rattle.basis.specs.Bytes.{overwrite, overwrite_next}
-use Rattle.tasks.specs.List.{task_at, no_task, due_of, runtime_of}
+use Rattle.tasks.specs.List.{task_at, no_task}
 use Rattle.start.proofs.read.Goals as goal
 
 pub loop-i-init : goal.loop-i-init

@@ -1,9 +1,8 @@
 -- `start::read` meets its contract.
 use Prim.Native.Nat.{ℕ, ◌≤◌, ◌-◌}
-use mathlib.Core.Path.{◌≡◌, refl}
-use native.Mathlib.Omega.{arith}
-use Rattle.basis.specs.Bytes.{overwrite, overwrite_next}
-use Rattle.tasks.specs.List.{task_at, no_task, due_of, runtime_of}
+use mathlib.Core.Path.{◌≡◌}
+use Rattle.basis.specs.Bytes.{overwrite}
+use Rattle.tasks.specs.List.{task_at, due_of, runtime_of}
 use Rattle.start.proofs.read.Given as goal
 
 abbrev pub invariant-loop-i : goal.invariant-loop-i

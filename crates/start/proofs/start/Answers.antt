@@ -5,11 +5,11 @@ use Rattle.start.proofs.Answers.{refused_begins, few_tasks, short_begins, accept
 use Rattle.start.proofs.start.Goals as goal
 
 pub returns-in-Refused : goal.returns-in-Refused
-returns-in-Refused c = 
+returns-in-Refused c =
     refused_begins _ _ _ _ _ _ c.judge-verdict.ensures _ _ _ _ _ _ _ c.in-Refused.is (search rules) c.no_run.ensures
 
 pub returns-then-log-jobs : goal.returns-then-log-jobs
-returns-then-log-jobs c = 
+returns-then-log-jobs c =
     short_begins _ _ _ _ _ _ c.judge-verdict.ensures _ _ _ _ c.in-Accepted.is _ c.if-log-jobs.true c.no_run-then-log-jobs.ensures
 
 pub read-requires : goal.read-requires
@@ -17,5 +17,5 @@ read-requires c = few_tasks _ _ _ c.judge-verdict.ensures _ _ _ _ c.in-Accepted.
 
 pub returns-in-Accepted : goal.returns-in-Accepted
 unfolding start_state
-returns-in-Accepted c = 
+returns-in-Accepted c =
     accepted_begins _ _ _ _ _ _ c.judge-verdict.ensures _ _ _ _ c.in-Accepted.is _ _ c.if-log-jobs.false (rw (c.read.ensures.0, c.read.ensures.1, c.read.ensures.2, c.mode_of.ensures)) c.clear.ensures

@@ -1,6 +1,5 @@
 -- `tasks::check_bounds` meets its contract: each way out is a law of Answers.
 use mathlib.Core.Path.{◌∙◌}
-use borrow.Author.Rules.{rules}
 use Rattle.tasks.proofs.Answers.{no_tasks, too_many, first_refused, all_fit, cycle_refused, all_kept}
 use Rattle.tasks.proofs.check_bounds.Goals as goal
 

@@ -4,7 +4,6 @@ use native.Mathlib.Omega.{arith}
 use native.Mathlib.Nat.{mul-le-mul, div-le_self, zero-div, zero-mul}
 use Rattle.tasks.specs.Euclid.{lcm_of, gcd_of}
 use Rattle.tasks.proofs.Euclid.{gcd_pos}
-use borrow.Author.Rules.{rules}
 use Rattle.tasks.proofs.lcm.Goals as goal
 
 pub returns-then-a-eq0 : goal.returns-then-a-eq0

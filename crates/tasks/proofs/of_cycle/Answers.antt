@@ -1,11 +1,9 @@
 -- `tasks::of_cycle` meets its contract: up to task i no multiple was above 4,096, so the next one fits; and up to 16 numbers
 -- up to 4,096 add up to no more than 65,536.
-use Prim.Native.Nat.{◌≤◌, ◌-◌, ◌*◌}
 use mathlib.Core.Path.{◌≡◌, refl}
 use native.Mathlib.Omega.{arith}
 use native.Mathlib.Numerals.{add-one}
 use native.Mathlib.Nat.{div-le_self}
-use borrow.Author.Rules.{rules}
 use Rattle.basis.specs.Sum.{sum}
 use Rattle.basis.specs.Answer.{refusal, clash, none, first_found}
 use Rattle.tasks.specs.List.{task_at, no_task}

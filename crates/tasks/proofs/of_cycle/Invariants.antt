@@ -1,15 +1,8 @@
 -- `tasks::of_cycle` meets its contract: up to task i no multiple was above 4,096, so the next one fits; and up to 16 numbers
 use Prim.Native.Nat.{◌≤◌, ◌-◌, ◌*◌}
-use mathlib.Core.Path.{◌≡◌, refl}
-use native.Mathlib.Omega.{arith}
-use native.Mathlib.Numerals.{add-one}
-use native.Mathlib.Nat.{div-le_self}
-use borrow.Author.Rules.{rules}
-use Rattle.basis.specs.Sum.{sum}
-use Rattle.basis.specs.Answer.{refusal, clash, none, first_found}
-use Rattle.tasks.specs.List.{task_at, no_task}
+use mathlib.Core.Path.{◌≡◌}
+use Rattle.basis.specs.Answer.{first_found}
 use Rattle.tasks.specs.Bounds.{of_cycle, multiple as multipleOf, job_sum}
-use Rattle.tasks.proofs.Steps.{nothing_here, keeps_to, one_more_multiple, one_more_jobs, given_up, all_reached}
 use Rattle.tasks.proofs.of_cycle.Given as goal
 
 abbrev pub invariant-loop-i : goal.invariant-loop-i

@@ -4,7 +4,6 @@ use mathlib.Core.Bool.{not}
 use Rattle.basis.specs.Choose.{yes_so, no_so}
 use Rattle.tasks.specs.Bounds.{of_numbers}
 use Rattle.basis.specs.Answer.{refusal, none}
-use borrow.Author.Rules.{rules}
 use Rattle.tasks.proofs.of_task.Goals as goal
 
 pub returns-then-not-is_within : goal.returns-then-not-is_within

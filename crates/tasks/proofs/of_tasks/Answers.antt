@@ -1,9 +1,8 @@
 -- `tasks::of_tasks` meets its contract: up to task i nothing was found by 3 and 4; then, up to task j, nothing by 5.
-use Prim.Native.Nat.{ℕ, ◌≤◌, ◌-◌}
+use Prim.Native.Nat.{ℕ}
 use mathlib.Core.Path.{◌≡◌, refl, sym, ap, ◌∙◌}
 use native.Mathlib.Omega.{arith}
 use native.Mathlib.Numerals.{add-one}
-use borrow.Author.Rules.{rules}
 use Rattle.basis.specs.Sum.{sum as sum_of}
 use Rattle.basis.specs.Answer.{Answer, refusal, ◌or_else◌, first_found, none_number, else_found}
 use Rattle.tasks.specs.declared.TaskList.{TaskList}

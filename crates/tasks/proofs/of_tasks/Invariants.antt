@@ -1,15 +1,8 @@
 -- `tasks::of_tasks` meets its contract: up to task i nothing was found by 3 and 4; then, up to task j, nothing by 5.
-use Prim.Native.Nat.{ℕ, ◌≤◌, ◌-◌}
-use mathlib.Core.Path.{◌≡◌, refl, sym, ap, ◌∙◌}
-use native.Mathlib.Omega.{arith}
-use native.Mathlib.Numerals.{add-one}
-use borrow.Author.Rules.{rules}
-use Rattle.basis.specs.Sum.{sum as sum_of}
-use Rattle.basis.specs.Answer.{Answer, refusal, ◌or_else◌, first_found, none_number, else_found}
-use Rattle.tasks.specs.declared.TaskList.{TaskList}
-use Rattle.tasks.specs.List.{task_at, no_task}
+use Prim.Native.Nat.{◌≤◌, ◌-◌}
+use mathlib.Core.Path.{◌≡◌}
+use Rattle.basis.specs.Answer.{first_found}
 use Rattle.tasks.specs.Bounds.{of_task, of_memory, memory_sum}
-use Rattle.tasks.proofs.Steps.{finds, still_first, nothing_here, found_here, of_task_at, exceeds, keeps_to, one_more_memory}
 use Rattle.tasks.proofs.of_tasks.Given as goal
 
 abbrev pub invariant-loop-i : goal.invariant-loop-i

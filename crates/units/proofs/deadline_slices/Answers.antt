@@ -1,5 +1,4 @@
 -- `units::deadline_slices` meets its contract.
-use borrow.Author.Rules.{rules}
 use Rattle.basis.specs.Choose.{cases}
 use Rattle.units.specs.Conversion.{deadline_slices}
 use Rattle.units.proofs.deadline_slices.Goals as goal

@@ -1,5 +1,4 @@
 -- `units::period_slices` meets its contract.
-use borrow.Author.Rules.{rules}
 use Rattle.basis.specs.Choose.{cases}
 use Rattle.units.specs.Conversion.{period_slices}
 use Rattle.units.proofs.period_slices.Goals as goal

@@ -1,10 +1,9 @@
 -- `units::rounded_up` meets its contract: the quotient where nothing is left over, else one more. That still fits, since what is left
 -- over is part of micros too.
 use mathlib.Core.Path.{◌≡◌, sym, ap, ◌∙◌}
-use Prim.Native.Nat.{ℕ, suc, ◌+◌, ◌-◌, ◌*◌, ◌/◌, ◌%◌, ◌≤◌, ◌<◌}
+use Prim.Native.Nat.{ℕ, ◌+◌, ◌-◌, ◌*◌, ◌/◌, ◌%◌, ◌≤◌, ◌<◌}
 use native.Mathlib.Omega.{arith}
 use native.Mathlib.Nat.{div-add-mod', mod-lt, mul-le-mul_left}
-use borrow.Author.Rules.{rules}
 use Rattle.basis.specs.Slices.{ceil}
 use Rattle.basis.proofs.Slices.{div_at}
 use Rattle.units.proofs.rounded_up.Goals as goal

@@ -1,5 +1,5 @@
 -- `verdict::asks` is safe: the product of two numbers of 32 bits fits.
-use Rattle.std.proofs.Common.{◌/◌, ◌≤◌, mul-le-mul, div-le_self, arith, rules}
+use Rattle.std.proofs.Common.{◌/◌, ◌≤◌, mul-le-mul, div-le_self, arith}
 use Rattle.verdict.proofs.asks.Goals as goal
 
 pub overflow_cast-result-2 : goal.overflow_cast-result-2

@@ -1,5 +1,5 @@
 -- `verdict::asks_too_much` is safe and ends, which is all that a hint has to.
-use Rattle.std.proofs.Common.{◌-◌, ◌≤◌, arith}
+use Rattle.std.proofs.Common.{◌-◌, ◌≤◌}
 use Rattle.verdict.proofs.asks_too_much.Given as goal
 
 abbrev pub invariant-loop-k : goal.invariant-loop-k

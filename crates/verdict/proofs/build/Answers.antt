@@ -1,5 +1,5 @@
 -- `verdict::build` meets its contract.
-use Rattle.std.proofs.Common.{arith, rules}
+use Rattle.std.proofs.Common.{arith}
 use Rattle.verdict.proofs.Answers.{built_refused, built_short, built_whole}
 use Rattle.verdict.proofs.build.Goals as goal
 

@@ -1,5 +1,5 @@
 -- `verdict::conclude` meets its contract: a miss is refused, and otherwise the walk has left the ends of the first jobs.
-use Rattle.std.proofs.Common.{pos, ap, ◌∙◌, arith, rules}
+use Rattle.std.proofs.Common.{pos, ap, ◌∙◌, arith}
 use Rattle.verdict.proofs.Signed.{fits_signed, as_signed, fits_negative, as_negative}
 use Rattle.verdict.proofs.Cycle.{few, order_small, short_within, concluded_late, ends_by_dues, margin_within, concluded_accepted}
 use Rattle.verdict.proofs.conclude.Goals as goal

@@ -1,6 +1,6 @@
 -- `verdict::copy` meets its contract: the entries before slice t are copied.
-use Rattle.std.proofs.Common.{◌≡◌, ◌-◌, ◌≤◌, refl, arith}
-use Rattle.basis.specs.Bytes.{at, overwrite, overwritten_length, overwrite_next}
+use Rattle.std.proofs.Common.{◌≡◌, refl, arith}
+use Rattle.basis.specs.Bytes.{overwrite, overwritten_length, overwrite_next}
 use Rattle.verdict.proofs.copy.Goals as goal
 
 pub loop-t-init : goal.loop-t-init

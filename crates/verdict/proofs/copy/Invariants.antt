@@ -1,6 +1,6 @@
 -- `verdict::copy` meets its contract: the entries before slice t are copied.
-use Rattle.std.proofs.Common.{◌≡◌, ◌-◌, ◌≤◌, refl, arith}
-use Rattle.basis.specs.Bytes.{at, overwrite, overwritten_length, overwrite_next}
+use Rattle.std.proofs.Common.{◌≡◌, ◌-◌, ◌≤◌}
+use Rattle.basis.specs.Bytes.{at, overwrite}
 use Rattle.verdict.proofs.copy.Given as goal
 
 abbrev pub invariant-loop-t : goal.invariant-loop-t

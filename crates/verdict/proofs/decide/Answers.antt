@@ -1,5 +1,5 @@
 -- `verdict::decide` meets its contract.
-use Rattle.std.proofs.Common.{arith, rules}
+use Rattle.std.proofs.Common.{arith}
 use Rattle.basis.specs.Bytes.{zeros}
 use Rattle.verdict.proofs.Answers.{shown, settled_short, settled_refused}
 use Rattle.verdict.proofs.decide.Goals as goal

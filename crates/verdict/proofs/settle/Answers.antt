@@ -1,5 +1,5 @@
 -- `verdict::settle` meets its contract.
-use Rattle.std.proofs.Common.{sym, ◌∙◌, rules}
+use Rattle.std.proofs.Common.{sym, ◌∙◌}
 use Rattle.verdict.proofs.Answers.{settle_broken, kept_bounded, settle_kept}
 use Rattle.verdict.proofs.settle.Goals as goal
 

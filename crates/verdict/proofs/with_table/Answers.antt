@@ -1,5 +1,5 @@
 -- `verdict::with_table` meets its contract.
-use Rattle.std.proofs.Common.{arith, rules}
+use Rattle.std.proofs.Common.{arith}
 use Rattle.verdict.proofs.Answers.{settled_refused, settled_whole}
 use Rattle.verdict.proofs.with_table.Goals as goal
 

@@ -1,9 +1,8 @@
 -- `viewer::copy` meets its contract: the entries before slice t are copied.
-use Prim.Native.Nat.{◌≤◌, ◌-◌}
 use mathlib.Core.Path.{◌≡◌, refl}
 use native.Mathlib.Omega.{arith}
 use lib.ListN.{length}
-use Rattle.basis.specs.Bytes.{at, overwrite, overwritten_length, overwrite_next}
+use Rattle.basis.specs.Bytes.{overwrite, overwritten_length, overwrite_next}
 use Rattle.viewer.proofs.copy.Goals as goal
 
 pub loop-t-init : goal.loop-t-init

@@ -1,9 +1,8 @@
 -- `viewer::copy` meets its contract: the entries before slice t are copied.
 use Prim.Native.Nat.{◌≤◌, ◌-◌}
-use mathlib.Core.Path.{◌≡◌, refl}
-use native.Mathlib.Omega.{arith}
+use mathlib.Core.Path.{◌≡◌}
 use lib.ListN.{length}
-use Rattle.basis.specs.Bytes.{at, overwrite, overwritten_length, overwrite_next}
+use Rattle.basis.specs.Bytes.{at, overwrite}
 use Rattle.viewer.proofs.copy.Given as goal
 
 abbrev pub invariant-loop-t : goal.invariant-loop-t

@@ -1,6 +1,4 @@
 -- `viewer::fit` meets its contract.
-use mathlib.Core.Path.{refl}
-use borrow.Author.Rules.{rules}
 use Rattle.basis.specs.Choose.{cases}
 use Rattle.viewer.specs.Shapes.{fitting}
 use Rattle.viewer.proofs.fit.Goals as goal

@@ -1,6 +1,5 @@
 -- `viewer::read` meets its contract: a file that is the form of no run, and one that is, each by a law of Ways.
 use mathlib.Core.Path.{sym}
-use borrow.Author.Rules.{rules}
 use lib.Seq.{length-take-le}
 use Rattle.viewer.proofs.Ways.{found_run, found_bad, fits_aside, reads_run, reads_formless}
 use Rattle.viewer.proofs.read.Goals as goal
@@ -9,13 +8,13 @@ pub slice_bounds-run-end : goal.slice_bounds-run-end
 slice_bounds-run-end c = fits_aside _ _ _ (found_run _ _ _ _ _ c.read.ensures c.in-Run.is)
 
 pub slice_bounds-give-end : goal.slice_bounds-give-end
-slice_bounds-give-end c = 
+slice_bounds-give-end c =
     sym (length-take-le _ _ (fits_aside _ _ _ (found_run _ _ _ _ _ c.read.ensures c.in-Run.is)))
 
 pub returns-in-Bad : goal.returns-in-Bad
-returns-in-Bad c = 
+returns-in-Bad c =
     reads_formless _ _ _ _ _ _ _ _ (found_bad _ _ _ _ _ c.read.ensures c.in-Bad.is) c.no_form.ensures
 
 pub returns-in-Run : goal.returns-in-Run
-returns-in-Run c = 
+returns-in-Run c =
     reads_run _ _ _ (found_run _ _ _ _ _ c.read.ensures c.in-Run.is) _ _ _ _ _ c.give.ensures

@@ -1,10 +1,9 @@
 -- `explain::candidate::count_in` meets its contract: the first n slices are counted.
-use Prim.Native.Nat.{ℕ, suc, ◌+◌, ◌≤◌, ◌-◌}
+use Prim.Native.Nat.{◌+◌}
 use mathlib.Core.Path.{◌≡◌, refl}
 use native.Mathlib.Omega.{arith}
 use Rattle.basis.specs.Bytes.{at}
 use Rattle.basis.specs.Sum.{sum}
-use Rattle.plan.specs.Plan.{gets}
 use Rattle.explain.proofs.Giving.{counted_one, counted_none}
 use Rattle.explain.proofs.candidate.count_in.Goals as goal
 use Rattle.explain.proofs.candidate.count_in.Goals.{then-run-from, else-run-from}

@@ -1,12 +1,9 @@
 -- `explain::candidate::count_in` meets its contract: the first n slices are counted.
 use Prim.Native.Nat.{ℕ, suc, ◌+◌, ◌≤◌, ◌-◌}
-use mathlib.Core.Path.{◌≡◌, refl}
-use mathlib.Core.Logic.{⊎_elim}
-use native.Mathlib.Omega.{arith}
+use mathlib.Core.Path.{◌≡◌}
 use Rattle.basis.specs.Bytes.{at}
 use Rattle.basis.specs.Sum.{sum}
 use Rattle.plan.specs.Plan.{gets}
-use Rattle.explain.proofs.Giving.{counted_one, counted_none}
 use Rattle.explain.proofs.candidate.count_in.Given as goal
 
 abbrev pub invariant-loop-n : goal.invariant-loop-n

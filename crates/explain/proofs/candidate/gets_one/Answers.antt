@@ -1,9 +1,7 @@
 -- `explain::candidate::gets_one` meets its contract.
 use mathlib.Core.Path.{sym}
-use borrow.Author.Rules.{rules}
 use Rattle.plan.proofs.Work.{gets_one, gets_none}
 use native.Mathlib.Omega.{arith}
-use borrow.Author.Rules.{rules}
 use Rattle.explain.proofs.candidate.gets_one.Goals as goal
 
 pub returns-then-entry-task : goal.returns-then-entry-task

@@ -1,14 +1,11 @@
 -- `explain::candidate::give` meets its contract: the needs of the first i tasks are given.
-use Prim.Native.Nat.{◌≤◌, ◌-◌}
 use mathlib.Core.Path.{◌≡◌, refl, ◌∙◌}
 use native.Mathlib.Omega.{arith}
 use native.Mathlib.Numerals.{add-one}
-use lib.ListN.{length}
 use Rattle.basis.specs.Sum.{sum}
-use Rattle.needs.specs.Explained.{given_in}
 use Rattle.tasks.specs.List.{task_at, no_task, plan_of}
-use Rattle.tasks.specs.Bounds.{cycle_of, job_sum}
-use Rattle.explain.proofs.Giving.{GivenTo, given_none, given_all, given_more, from_next, given_is, period_some, period_most, windows_in, jobs_are, room_for}
+use Rattle.tasks.specs.Bounds.{job_sum}
+use Rattle.explain.proofs.Giving.{given_none, given_all, given_more, from_next, given_is, period_some, period_most, windows_in, jobs_are, room_for}
 use Rattle.explain.proofs.candidate.give.Goals as goal
 
 pub loop-i-init : goal.loop-i-init

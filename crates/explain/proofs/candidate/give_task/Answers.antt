@@ -1,12 +1,8 @@
 -- `explain::candidate::give_task` meets its contract: the needs of the first k jobs are laid.
-use Prim.Native.Nat.{ℕ, suc, ◌+◌, ◌*◌, ◌≤◌, ◌-◌}
+use Prim.Native.Nat.{◌+◌}
 use mathlib.Core.Path.{◌≡◌, refl, ◌∙◌}
 use native.Mathlib.Omega.{arith}
-use lib.ListN.{length, length-set}
-use Rattle.basis.specs.Bytes.{at}
-use Rattle.basis.specs.Sum.{sum}
-use Rattle.plan.specs.Plan.{gets}
-use Rattle.explain.specs.Shapes.{Laid}
+use lib.ListN.{length-set}
 use Rattle.explain.proofs.Giving.{laid_none, laid_more, window_in, start_next}
 use Rattle.explain.proofs.candidate.give_task.Goals as goal
 

@@ -1,9 +1,6 @@
 -- `explain::candidate::go_back` meets its contract: the places before k have gone back.
 use Prim.Native.Nat.{◌≤◌, ◌-◌}
-use native.Mathlib.Omega.{arith}
-use mathlib.Core.Path.{◌≡◌, ◌∙◌}
 use Rattle.explain.specs.Shapes.{Back}
-use Rattle.explain.proofs.Walking.{back_none, start_waits, back_more, own_small}
 use Rattle.explain.proofs.candidate.go_back.Given as goal
 
 abbrev pub invariant-loop-k : goal.invariant-loop-k

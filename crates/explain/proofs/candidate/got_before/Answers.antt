@@ -1,7 +1,5 @@
 -- `explain::candidate::got_before` meets its contract.
 use Rattle.basis.specs.Choose.{cases}
-use borrow.Author.Rules.{rules}
-use borrow.Author.Rules.{rules}
 use Rattle.explain.proofs.candidate.got_before.Goals as goal
 
 pub returns-then-t-start : goal.returns-then-t-start

@@ -1,9 +1,8 @@
 -- `explain::candidate::leads` meets its contract: from slice t on every slice agrees.
-use Prim.Native.Nat.{◌≤◌}
 use mathlib.Core.Path.{◌≡◌}
 use native.Mathlib.Omega.{arith}
 use borrow.Author.Tests.{not-true, not-false}
-use Rattle.explain.proofs.Leading.{AgreesFrom, agrees_first, back_allowed, unfit_leads, look_allowed, other_leads, agrees_more, all_agree}
+use Rattle.explain.proofs.Leading.{agrees_first, back_allowed, unfit_leads, look_allowed, other_leads, agrees_more, all_agree}
 use Rattle.explain.proofs.candidate.leads.Goals as goal
 
 pub loop-t-init : goal.loop-t-init

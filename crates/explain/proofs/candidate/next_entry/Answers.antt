@@ -1,11 +1,9 @@
 -- `explain::candidate::next_entry` meets its contract: nobody before place k waits.
 use mathlib.Core.Path.{◌≡◌, refl}
 use mathlib.Core.Logic.{inl, inr}
-use Prim.Native.Nat.{ℕ, ◌≤◌, ◌<◌, ◌-◌}
 use native.Mathlib.Omega.{arith}
 use borrow.Author.Count.{below_more}
 use Rattle.plan.specs.Order.{FirstIn}
-use Rattle.explain.specs.Shapes.{waits_at}
 use Rattle.explain.proofs.candidate.next_entry.Goals as goal
 
 pub loop-k-init : goal.loop-k-init

@@ -1,10 +1,6 @@
 -- `explain::candidate::next_entry` meets its contract: nobody before place k waits.
-use mathlib.Core.Path.{◌≡◌, refl}
-use mathlib.Core.Logic.{inl, inr}
+use mathlib.Core.Path.{◌≡◌}
 use Prim.Native.Nat.{ℕ, ◌≤◌, ◌<◌, ◌-◌}
-use native.Mathlib.Omega.{arith}
-use borrow.Author.Count.{below_more}
-use Rattle.plan.specs.Order.{FirstIn}
 use Rattle.explain.specs.Shapes.{waits_at}
 use Rattle.explain.proofs.candidate.next_entry.Given as goal
 

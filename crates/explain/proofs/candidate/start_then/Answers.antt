@@ -2,8 +2,6 @@
 use Rattle.basis.specs.Choose.{cases}
 use Rattle.explain.specs.Shapes.{start_then}
 use native.Mathlib.Omega.{arith}
-use borrow.Author.Rules.{rules}
-use borrow.Author.Rules.{rules}
 use Rattle.explain.proofs.candidate.start_then.Goals as goal
 
 pub overflow_sub-result : goal.overflow_sub-result

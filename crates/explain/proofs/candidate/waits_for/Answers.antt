@@ -1,8 +1,6 @@
 -- `explain::candidate::waits_for` meets its contract.
 use Rattle.basis.specs.Choose.{cases}
-use borrow.Author.Rules.{rules}
 use Rattle.explain.specs.Shapes.{waits_for}
-use borrow.Author.Rules.{rules}
 use Rattle.explain.proofs.candidate.waits_for.Goals as goal
 
 pub returns-then-t-start : goal.returns-then-t-start

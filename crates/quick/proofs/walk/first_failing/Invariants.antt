@@ -1,9 +1,6 @@
 -- `quick::walk::first_failing` meets its contract: the tasks before place k pass.
-use mathlib.Core.Path.{refl}
 use Prim.Native.Nat.{◌-◌}
-use native.Mathlib.Omega.{arith}
-use borrow.Author.Rules.{rules}
-use Rattle.quick.proofs.Walking.{period_pos, Trying, trying_none, first_round, asked_has_room, its_turn, trying_more, first_found_lem, all_pass}
+use Rattle.quick.proofs.Walking.{Trying}
 use Rattle.quick.proofs.walk.first_failing.Given as goal
 
 abbrev pub invariant-loop-k : goal.invariant-loop-k

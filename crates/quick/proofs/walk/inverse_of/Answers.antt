@@ -1,10 +1,9 @@
 -- `quick::walk::inverse_of` meets its contract.
-use mathlib.Core.Path.{◌≡◌, sym, ◌∙◌}
-use Prim.Native.Nat.{ℕ, ◌/◌, ◌≤◌}
+use mathlib.Core.Path.{sym, ◌∙◌}
+use Prim.Native.Nat.{◌/◌}
 use native.Mathlib.Omega.{arith}
 use native.Mathlib.Numerals.{add-one}
 use native.Mathlib.Nat.{div-le_self}
-use borrow.Author.Rules.{rules}
 use Rattle.basis.proofs.Slices.{ceil_suc}
 use Rattle.quick.specs.Shapes.{inverse_of}
 use Rattle.quick.proofs.walk.inverse_of.Goals as goal

@@ -1,6 +1,5 @@
 -- `quick::walk::jobs_in` meets its contract: dividing by the inverse is exact.
 use native.Mathlib.Omega.{arith}
-use borrow.Author.Rules.{rules}
 use Rattle.quick.proofs.Inverse.{jobs_are, product_small, quotient_small}
 use Rattle.quick.proofs.walk.jobs_in.Goals as goal
 

@@ -1,7 +1,5 @@
 -- `quick::walk::try_task` meets its contract: what is asked for where the walk stands, by the deadline or by the cycle's end decides,
 -- or else the walk does.
-use borrow.Author.Rules.{rules}
-use native.Mathlib.Omega.{arith}
 use Rattle.quick.proofs.Walking.{began_fits, due_from_1, too_much, in_time, walked_in_time, deadline_passes, cycle_overfull}
 use Rattle.quick.proofs.walk.try_task.Goals as goal
 

@@ -1,7 +1,5 @@
 -- `quick::walk::walk_on` meets its contract: no slice before the one where the walk stands passes.
-use Prim.Native.Nat.{◌-◌}
 use native.Mathlib.Omega.{arith}
-use Rattle.quick.specs.Shapes.{Walks}
 use Rattle.quick.proofs.Walking.{goes_on, stops, asked_fits, walks_on, point_rises}
 use Rattle.quick.proofs.walk.walk_on.Goals as goal
 

@@ -1,5 +1,5 @@
 -- `readback::lines::byte_at` meets its contract.
-use Rattle.std.proofs.Common.{arith, rules}
+use Rattle.std.proofs.Common.{arith}
 use Rattle.readback.proofs.Bytes.{inside_any, outside}
 use Rattle.readback.proofs.lines.byte_at.Goals as goal
 

@@ -1,5 +1,5 @@
 -- `readback::lines::four_bits` meets its contract.
-use Rattle.std.proofs.Common.{arith, rules}
+use Rattle.std.proofs.Common.{arith}
 use Rattle.readback.proofs.Words.{bits_read}
 use Rattle.readback.proofs.lines.four_bits.Goals as goal
 

@@ -1,5 +1,5 @@
 -- `readback::lines::four_digits` meets its contract.
-use Rattle.std.proofs.Common.{arith, rules}
+use Rattle.std.proofs.Common.{arith}
 use Rattle.readback.proofs.Words.{digits_few, digits_fewer, digits_read}
 use Rattle.readback.proofs.lines.four_digits.Goals as goal
 

@@ -1,5 +1,5 @@
 -- `readback::lines::last_bit` meets its contract.
-use Rattle.std.proofs.Common.{arith, rules}
+use Rattle.std.proofs.Common.{arith}
 use Rattle.readback.proofs.Words.{last_read}
 use Rattle.readback.proofs.lines.last_bit.Goals as goal
 

@@ -1,5 +1,5 @@
 -- `readback::lines::time_begun` meets its contract: a mark, four digits, a line feed.
-use Rattle.std.proofs.Common.{arith, rules}
+use Rattle.std.proofs.Common.{arith}
 use Rattle.readback.proofs.TwoLines.{time_read}
 use Rattle.readback.proofs.lines.time_begun.Goals as goal
 
@@ -7,7 +7,7 @@ pub overflow_add-from-5 : goal.overflow_add-from-5
 overflow_add-from-5 c = omega (arith, c.requires.0)
 
 pub returns : goal.returns
-returns c = 
+returns c =
     time_read _ _ _ c.requires.1
     c.byte_at.ensures
     c.with_byte-mark.ensures

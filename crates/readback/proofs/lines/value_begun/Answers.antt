@@ -1,5 +1,5 @@
 -- `readback::lines::value_begun` meets its contract: a mark, five digits, a blank, the name, a line feed.
-use Rattle.std.proofs.Common.{arith, rules}
+use Rattle.std.proofs.Common.{arith}
 use Rattle.readback.proofs.TwoLines.{value_read}
 use Rattle.readback.proofs.lines.value_begun.Goals as goal
 
@@ -19,7 +19,7 @@ pub overflow_add-from-8 : goal.overflow_add-from-8
 overflow_add-from-8 c = omega (arith, c.requires)
 
 pub returns : goal.returns
-returns c = 
+returns c =
     value_read _ _ _ _ c.top_other-top.ensures
     c.byte_at.ensures
     c.with_byte-mark.ensures

@@ -1,5 +1,5 @@
 -- `readback::lines::whole_time` meets its contract.
-use Rattle.std.proofs.Common.{arith, rules}
+use Rattle.std.proofs.Common.{arith}
 use Rattle.readback.proofs.Whole.{no_line, time_stands}
 use Rattle.readback.proofs.lines.whole_time.Goals as goal
 
@@ -31,6 +31,6 @@ pub word_at-requires : goal.word_at-requires
 word_at-requires c = omega arith
 
 pub returns : goal.returns
-returns c = 
+returns c =
     time_stands _ _ _ _ c.if-from-file.false c.if-file-from-ne35.false c.if-file-from-ne10.false c.word_at.ensures
     c.four_digits.ensures

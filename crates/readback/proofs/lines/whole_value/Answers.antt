@@ -1,5 +1,5 @@
 -- `readback::lines::whole_value` meets its contract.
-use Rattle.std.proofs.Common.{arith, rules}
+use Rattle.std.proofs.Common.{arith}
 use Rattle.readback.proofs.Whole.{no_line, value_stands}
 use Rattle.readback.proofs.lines.whole_value.Goals as goal
 
@@ -40,7 +40,7 @@ pub overflow_add-result : goal.overflow_add-result
 overflow_add-result c = omega arith
 
 pub returns : goal.returns
-returns c = 
+returns c =
     value_stands _ _ _ _ _ _ c.if-from-file.false c.if-file-from-ne98.false
     c.word_at.ensures c.four_bits-front.ensures c.if-front-gt15.false
     c.word_at-2.ensures c.last_bit-last.ensures c.if-last-gt1.false

@@ -1,5 +1,5 @@
 -- `readback::lines::with_digit` meets its contract.
-use Rattle.std.proofs.Common.{mul-le-mul, arith, rules}
+use Rattle.std.proofs.Common.{mul-le-mul, arith}
 use Rattle.readback.proofs.lines.with_digit.Goals as goal
 
 pub overflow_mul-number : goal.overflow_mul-number

@@ -1,5 +1,4 @@
 -- `run::ask::ask` meets its contract.
-use Rattle.std.proofs.Common.{rules}
 use Rattle.run.proofs.Asking.{asked_unsound, asked_over, asked_by_table, asked_filling, few_tasks, in_cycle}
 use Rattle.run.proofs.ask.ask.Goals as goal
 

@@ -1,5 +1,5 @@
 -- `run::ask::better` meets its contract.
-use Rattle.std.proofs.Common.{◌≡◌, ℕ, ◌+◌, ◌-◌, ◌≤◌, ◌∙◌, arith, rules}
+use Rattle.std.proofs.Common.{◌≡◌, ℕ, ◌+◌, ◌-◌, ◌≤◌, ◌∙◌, arith}
 use Rattle.run.proofs.Turns.{ended_stays, first_of_all, smaller_taken, earlier_kept}
 use Rattle.run.proofs.ask.better.Goals as goal
 

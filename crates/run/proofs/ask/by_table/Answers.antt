@@ -1,5 +1,5 @@
 -- `run::ask::by_table` meets its contract: each way out by what the entry reads as.
-use Rattle.std.proofs.Common.{sym, ◌∙◌, rules, lt-ltb}
+use Rattle.std.proofs.Common.{sym, ◌∙◌, lt-ltb}
 use Rattle.basis.specs.Choose.{choose}
 use Rattle.run.specs.Shapes.{table_ask}
 use Rattle.run.proofs.Asking.{reads_idle_as, reads_one, reads_task_as, reads_none_as}

@@ -1,10 +1,8 @@
 -- `run::ask::first_open` meets its contract.
-use Rattle.std.proofs.Common.{◌≡◌, ◌+◌, ◌-◌, ◌≤◌, false, get_or, refl, arith}
+use Rattle.std.proofs.Common.{◌≡◌, ◌-◌, ◌≤◌, false, get_or}
 use Rattle.basis.specs.Bytes.{at}
 use Rattle.basis.specs.Choose.{choose}
 use Rattle.plan.specs.Plan.{first}
-use Rattle.run.specs.Shapes.{open_first}
-use Rattle.run.proofs.Turns.{scanned_to, one_more_scanned}
 use Rattle.run.proofs.ask.first_open.Given as goal
 
 abbrev pub invariant-loop-i : goal.invariant-loop-i

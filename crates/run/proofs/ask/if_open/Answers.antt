@@ -1,5 +1,4 @@
 -- `run::ask::if_open` meets its contract.
-use Rattle.std.proofs.Common.{rules}
 use Rattle.basis.specs.Choose.{choose}
 use Rattle.run.proofs.ask.if_open.Goals as goal
 

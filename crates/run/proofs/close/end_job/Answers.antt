@@ -1,5 +1,5 @@
 -- `run::close::end_job` meets its contract.
-use Rattle.std.proofs.Common.{arith, rules, eq-eqb, ne_eqb}
+use Rattle.std.proofs.Common.{arith, eq-eqb, ne_eqb}
 use Rattle.basis.specs.Choose.{choose}
 use Rattle.run.specs.Shapes.{ended_if}
 use Rattle.run.proofs.close.end_job.Goals as goal

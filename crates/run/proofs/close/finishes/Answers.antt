@@ -1,5 +1,5 @@
 -- `run::close::finishes` meets its contract.
-use Rattle.std.proofs.Common.{sym, rules, eq-eqb, ne_eqb}
+use Rattle.std.proofs.Common.{sym, eq-eqb, ne_eqb}
 use Rattle.basis.specs.Choose.{choose_yes, choose_no}
 use Rattle.run.specs.Shapes.{ends_here}
 use Rattle.run.proofs.close.finishes.Goals as goal

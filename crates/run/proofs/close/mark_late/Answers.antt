@@ -1,5 +1,5 @@
 -- `run::close::mark_late` meets its contract.
-use Rattle.std.proofs.Common.{sym, ◌∙◌, rules}
+use Rattle.std.proofs.Common.{sym, ◌∙◌}
 use borrow.Author.Tests.{not-true, not-false}
 use Rattle.basis.specs.Choose.{choose}
 use Rattle.run.proofs.close.mark_late.Goals as goal

@@ -1,5 +1,5 @@
 -- `run::close::mark_result` meets its contract.
-use Rattle.std.proofs.Common.{sym, ◌∙◌, arith, rules, eq-eqb, ne_eqb}
+use Rattle.std.proofs.Common.{sym, ◌∙◌, arith, eq-eqb, ne_eqb}
 use Rattle.basis.specs.Choose.{choose_yes, choose_no}
 use Rattle.run.specs.Shapes.{result_put}
 use Rattle.run.proofs.close.mark_result.Goals as goal

@@ -1,5 +1,5 @@
 -- `run::close::renew_ended` meets its contract.
-use Rattle.std.proofs.Common.{sym, ap, ◌∙◌, rules}
+use Rattle.std.proofs.Common.{sym, ◌∙◌}
 use borrow.Author.Tests.{not-true, not-false}
 use Rattle.basis.specs.Choose.{choose_yes, choose_no}
 use Rattle.run.proofs.close.renew_ended.Goals as goal

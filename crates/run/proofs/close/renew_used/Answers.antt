@@ -1,5 +1,5 @@
 -- `run::close::renew_used` meets its contract.
-use Rattle.std.proofs.Common.{sym, rules}
+use Rattle.std.proofs.Common.{sym}
 use borrow.Author.Tests.{not-true, not-false}
 use Rattle.basis.specs.Choose.{choose_yes, choose_no}
 use Rattle.run.proofs.close.renew_used.Goals as goal

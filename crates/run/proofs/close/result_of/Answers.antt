@@ -1,5 +1,5 @@
 -- `run::close::result_of` meets its contract.
-use Rattle.std.proofs.Common.{rules, eq-eqb, ne_eqb}
+use Rattle.std.proofs.Common.{eq-eqb, ne_eqb}
 use Rattle.basis.specs.Choose.{choose}
 use Rattle.run.specs.Shapes.{result_byte}
 use Rattle.run.proofs.close.result_of.Goals as goal

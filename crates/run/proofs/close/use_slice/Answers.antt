@@ -1,5 +1,5 @@
 -- `run::close::use_slice` meets its contract.
-use Rattle.std.proofs.Common.{rules, eq-eqb, ne_eqb}
+use Rattle.std.proofs.Common.{eq-eqb, ne_eqb}
 use Rattle.basis.specs.Choose.{choose}
 use Rattle.run.specs.Shapes.{in_all, used_one}
 use Rattle.run.proofs.close.use_slice.Goals as goal

@@ -1,5 +1,5 @@
 -- `run::close::write` meets its contract.
-use Rattle.std.proofs.Common.{◌≡◌, ℕ, ◌<◌, nat_lt, List, set, ap, ◌∙◌, arith, rules, lt-ltb}
+use Rattle.std.proofs.Common.{◌≡◌, ℕ, ◌<◌, nat_lt, List, set, ap, ◌∙◌, arith, lt-ltb}
 use Rattle.basis.specs.Choose.{choose, choose_yes}
 use Rattle.run.specs.State.{place_in}
 use Rattle.run.proofs.close.write.Goals as goal

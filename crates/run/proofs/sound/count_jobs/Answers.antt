@@ -1,12 +1,12 @@
 -- `run::sound::count_jobs` meets its contract.
-use Rattle.std.proofs.Common.{◌≡◌, ◌-◌, ◌*◌, ◌/◌, ◌%◌, ◌≤◌, true, false, get_or, sym, refl, ◌∙◌, div-le_self, arith}
+use Rattle.std.proofs.Common.{◌≡◌, sym, refl, ◌∙◌, div-le_self, arith}
 use borrow.Author.Tests.{not-true, not-false}
 use Rattle.basis.specs.Bytes.{at}
 use Rattle.basis.specs.Choose.{choose_yes, choose_no}
 use Rattle.basis.specs.Sum.{sum}
-use Rattle.run.specs.State.{every, sound_task}
+use Rattle.run.specs.State.{every}
 use Rattle.run.specs.Sound.{task_tells}
-use Rattle.run.specs.Shapes.{job, jobs_of}
+use Rattle.run.specs.Shapes.{jobs_of}
 use Rattle.run.proofs.Turns.{one_more_sound, one_unsound, one_more_sum}
 use Rattle.run.proofs.sound.count_jobs.Goals as goal
 

@@ -52,7 +52,7 @@ pub returns-then-used-runtime : goal.returns-then-used-runtime
 returns-then-used-runtime c = sym (not_task _ _ _ _ _ _ (λ S. omega (arith, S.used_below c.if-ended.false, c.if-used-runtime.true)))
 
 pub returns-then-deadline-period : goal.returns-then-deadline-period
-returns-then-deadline-period c = 
+returns-then-deadline-period c =
     let a = c.args in
     sym (is_task _ _ _ _ _ _ (tested _ _ _ _ _ _ _ (sym c.is_within.ensures ∙ c.if-not-is_within.false) c.if-cycle-period-ne0.false c.if-runtime-eq0.false c.if-deadline-runtime.false c.if-period-deadline.false c.if-runtime-used.false (λ _. omega (arith, c.if-runtime-used.false, c.if-used-runtime.false)) (λ _. omega (arith, c.if-deadline-period.true, mod-lt a.position (within_tells 1 4096 _ (sym c.is_within.ensures ∙ c.if-not-is_within.false)).0))))
 
@@ -60,7 +60,7 @@ pub nonzero_rem-result : goal.nonzero_rem-result
 nonzero_rem-result c = (within_tells 1 4096 _ (sym c.is_within.ensures ∙ c.if-not-is_within.false)).0
 
 pub returns : goal.returns
-returns c = 
+returns c =
     let a = c.args in
     ⊎_elim
     (λ (late : a.deadline ≤ a.position % a.period). le-ltb _ _ late ∙ sym (not_task _ _ _ _ _ _ (λ S. omega (arith, S.open_before c.if-ended.false))))

@@ -1,6 +1,5 @@
 -- `verdict::walk::fill` meets its contract: the slices before s are written.
-use Rattle.std.proofs.Common.{◌≡◌, ◌-◌, ◌≤◌, arith}
-use Rattle.verdict.specs.Shapes.{Filled}
+use Rattle.std.proofs.Common.{◌≡◌, arith}
 use Rattle.verdict.proofs.Handing.{filled_none, filled_more}
 use Rattle.verdict.proofs.walk.fill.Goals as goal
 

@@ -1,7 +1,6 @@
 -- `verdict::walk::fill` meets its contract: the slices before s are written.
-use Rattle.std.proofs.Common.{◌≡◌, ◌-◌, ◌≤◌, arith}
+use Rattle.std.proofs.Common.{◌-◌, ◌≤◌}
 use Rattle.verdict.specs.Shapes.{Filled}
-use Rattle.verdict.proofs.Handing.{filled_none, filled_more}
 use Rattle.verdict.proofs.walk.fill.Given as goal
 
 abbrev pub invariant-loop-s : goal.invariant-loop-s

@@ -1,5 +1,5 @@
 -- `verdict::walk::hand_one` meets its contract.
-use Rattle.std.proofs.Common.{arith, rules}
+use Rattle.std.proofs.Common.{arith}
 use Rattle.verdict.proofs.Handing.{no_turn, turn_of_later_job, turn_of_first_job}
 use Rattle.verdict.proofs.walk.hand_one.Goals as goal
 

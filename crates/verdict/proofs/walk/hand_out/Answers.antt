@@ -1,6 +1,6 @@
 -- `verdict::walk::hand_out` meets its contract: the tasks before place k have had their turn.
-use Rattle.std.proofs.Common.{◌≡◌, ◌-◌, ◌≤◌, length, arith}
-use Rattle.verdict.proofs.Handing.{Handing, handing_none, handing_more, handed_out, handed_all}
+use Rattle.std.proofs.Common.{arith}
+use Rattle.verdict.proofs.Handing.{handing_none, handing_more, handed_out, handed_all}
 use Rattle.verdict.proofs.walk.hand_out.Goals as goal
 
 pub loop-k-init : goal.loop-k-init

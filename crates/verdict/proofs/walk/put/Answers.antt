@@ -1,5 +1,5 @@
 -- `verdict::walk::put` meets its contract.
-use Rattle.std.proofs.Common.{sym, rules}
+use Rattle.std.proofs.Common.{sym}
 use Rattle.basis.specs.Bytes.{as_it_was}
 use Rattle.verdict.proofs.walk.put.Goals as goal
 

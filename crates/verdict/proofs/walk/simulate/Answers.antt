@@ -1,8 +1,6 @@
 -- `verdict::walk::simulate` meets its contract: before slice t the arrays are the run of the slice rule, and nothing was late.
-use Rattle.std.proofs.Common.{◌≡◌, ◌-◌, length, arith}
-use Rattle.tasks.specs.List.{plan_of}
-use Rattle.verdict.specs.Walk.{Shown}
-use Rattle.verdict.proofs.Cycle.{At, few, order_small, at_start, numbers_fit, stops, goes_on, ends_well}
+use Rattle.std.proofs.Common.{arith}
+use Rattle.verdict.proofs.Cycle.{few, order_small, at_start, numbers_fit, stops, goes_on, ends_well}
 use Rattle.verdict.proofs.walk.simulate.Goals as goal
 
 pub bounds-dues-0 : goal.bounds-dues-0

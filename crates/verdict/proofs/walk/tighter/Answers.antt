@@ -1,5 +1,5 @@
 -- `verdict::walk::tighter` meets its contract.
-use Rattle.std.proofs.Common.{arith, rules}
+use Rattle.std.proofs.Common.{arith}
 use Rattle.verdict.proofs.walk.tighter.Goals as goal
 
 pub returns-then-margin_at : goal.returns-then-margin_at

@@ -1,6 +1,6 @@
 -- `verdict::walk::tightest` meets its contract: `best` is the tightest of the first k.
-use Rattle.std.proofs.Common.{◌≡◌, ◌-◌, ◌≤◌, arith}
-use Rattle.verdict.specs.Shapes.{margin_at, TightestAt}
+use Rattle.std.proofs.Common.{◌≡◌, arith}
+use Rattle.verdict.specs.Shapes.{margin_at}
 use Rattle.verdict.proofs.Tightest.{tightest_first, tightest_more}
 use Rattle.verdict.proofs.walk.tightest.Goals as goal
 

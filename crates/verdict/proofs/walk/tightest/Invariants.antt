@@ -1,7 +1,6 @@
 -- `verdict::walk::tightest` meets its contract: `best` is the tightest of the first k.
-use Rattle.std.proofs.Common.{◌≡◌, ◌-◌, ◌≤◌, arith}
+use Rattle.std.proofs.Common.{◌-◌, ◌≤◌}
 use Rattle.verdict.specs.Shapes.{margin_at, TightestAt}
-use Rattle.verdict.proofs.Tightest.{tightest_first, tightest_more}
 use Rattle.verdict.proofs.walk.tightest.Given as goal
 
 abbrev pub invariant-loop-k : goal.invariant-loop-k

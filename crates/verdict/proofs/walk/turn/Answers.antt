@@ -1,6 +1,6 @@
 -- `verdict::walk::turn` meets its contract: the tasks before place k have turned, and none of them was late.
-use Rattle.std.proofs.Common.{◌-◌, ◌≤◌, arith}
-use Rattle.verdict.proofs.Turning.{Turning, turning_none, still_fits, turning_more, late_found, turning_all}
+use Rattle.std.proofs.Common.{arith}
+use Rattle.verdict.proofs.Turning.{turning_none, still_fits, turning_more, late_found, turning_all}
 use Rattle.verdict.proofs.walk.turn.Goals as goal
 
 pub loop-k-init : goal.loop-k-init

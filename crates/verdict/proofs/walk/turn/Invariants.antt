@@ -1,6 +1,6 @@
 -- `verdict::walk::turn` meets its contract: the tasks before place k have turned, and none of them was late.
-use Rattle.std.proofs.Common.{◌-◌, ◌≤◌, arith}
-use Rattle.verdict.proofs.Turning.{Turning, turning_none, still_fits, turning_more, late_found, turning_all}
+use Rattle.std.proofs.Common.{◌-◌, ◌≤◌}
+use Rattle.verdict.proofs.Turning.{Turning}
 use Rattle.verdict.proofs.walk.turn.Given as goal
 
 abbrev pub invariant-loop-k : goal.invariant-loop-k

@@ -1,5 +1,5 @@
 -- `verdict::walk::turn_one` meets its contract.
-use Rattle.std.proofs.Common.{arith, rules}
+use Rattle.std.proofs.Common.{arith}
 use Rattle.verdict.proofs.Turning.{not_yet, missed, shut, released}
 use Rattle.verdict.proofs.walk.turn_one.Goals as goal
 
