@@ -1,5 +1,7 @@
 // Records of the quick question, and the same question beside a verdict.
+use crate::taken::Input;
 use crate::{Hand, taken};
+use cases::told::Teller;
 use cases::{Answer, told};
 use quick::Quick;
 use tasks::TaskList;
@@ -38,16 +40,23 @@ fn without_margin(verdict: Answer) -> Named {
     }
 }
 
-fn agree(number: u32, what: &[u8], expected: Named, found: Named) -> bool {
-    let refusal = told::agrees(number, b"refusal", expected.refusal, found.refusal);
-    let task = told::task_agrees(number, expected.task, found.task);
-    told::holds(number, what, refusal & task)
+fn agree(tell: &mut Teller, number: u32, what: &[u8], expected: Named, found: Named) -> bool {
+    let refusal = told::agrees(tell, number, b"refusal", expected.refusal, found.refusal);
+    let task = told::task_agrees(tell, number, expected.task, found.task);
+    told::holds(tell, number, what, refusal & task)
 }
 
 // The list by value, and lent as a run of records.
-fn both_agree(number: u32, expected: Named, list: TaskList, supply: u32) -> bool {
-    let ask = agree(number, b"ask", expected, of(quick::ask(list, supply)));
+fn both_agree(
+    tell: &mut Teller,
+    number: u32,
+    expected: Named,
+    list: TaskList,
+    supply: u32,
+) -> bool {
+    let ask = agree(tell, number, b"ask", expected, of(quick::ask(list, supply)));
     let ask_list = agree(
+        tell,
         number,
         b"ask_list",
         expected,
@@ -57,13 +66,19 @@ fn both_agree(number: u32, expected: Named, list: TaskList, supply: u32) -> bool
 }
 
 // The question of a list whose verdict is expected to be such.
-pub(crate) fn beside(number: u32, verdict: Answer, list: TaskList, supply: u32) -> bool {
-    both_agree(number, without_margin(verdict), list, supply)
+pub(crate) fn beside(
+    tell: &mut Teller,
+    number: u32,
+    verdict: Answer,
+    list: TaskList,
+    supply: u32,
+) -> bool {
+    both_agree(tell, number, without_margin(verdict), list, supply)
 }
 
-fn expected() -> Named {
-    let refusal = taken::byte();
-    let task = taken::byte();
+fn expected(input: &mut Input) -> Named {
+    let refusal = taken::byte(input);
+    let task = taken::byte(input);
     Named {
         refusal: refusal as u32,
         task: task as usize,
@@ -71,12 +86,15 @@ fn expected() -> Named {
 }
 
 // The question of a list of its own; the list in hand stays.
-pub(crate) fn ask(hand: Hand) -> Hand {
-    let supply = taken::word();
-    let count = taken::size();
+pub(crate) fn ask(tell: &mut Teller, input: &mut Input, hand: Hand) -> Hand {
+    let supply = taken::word(input);
+    let count = taken::size(input);
     if 272 < count {
-        return crate::open_if_formed(hand, false);
+        return crate::open_if_formed(tell, hand, false);
     }
-    let list = taken::take_list(count);
-    crate::open_if(hand, both_agree(hand.number, expected(), list, supply))
+    let list = taken::take_list(input, count);
+    crate::open_if(
+        hand,
+        both_agree(tell, hand.number, expected(input), list, supply),
+    )
 }

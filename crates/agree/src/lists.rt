@@ -1,5 +1,7 @@
 // Records of lists and conversions.
+use crate::taken::Input;
 use crate::{Hand, asks, taken};
+use cases::told::Teller;
 use cases::{Answer, compared, told};
 use tasks::{Bounds, TaskList};
 use units::Slices;
@@ -41,17 +43,17 @@ fn bounds_answer(bounds: Bounds, expected: Answer) -> Answer {
 }
 
 // The same list judged by value, lent as a run of records, held to its bounds alone, and asked about quickly.
-fn judged(hand: Hand, supply: u32, list: TaskList) -> Hand {
-    let expected = taken::take_answer();
+fn judged(tell: &mut Teller, input: &mut Input, hand: Hand, supply: u32, list: TaskList) -> Hand {
+    let expected = taken::take_answer(input);
     let found = compared::answer_of(verdict::judge(list, supply));
-    let judge = told::answer_agrees(hand.number, expected, found);
+    let judge = told::answer_agrees(tell, hand.number, expected, found);
     let lent = compared::answer_of(lent::judge_list(list, supply));
-    let same = told::answer_agrees(hand.number, expected, lent);
-    let judge_list = told::holds(hand.number, b"judge_list", same);
+    let same = told::answer_agrees(tell, hand.number, expected, lent);
+    let judge_list = told::holds(tell, hand.number, b"judge_list", same);
     let kept = bounds_answer(tasks::check_bounds(list, supply), expected);
-    let within = told::answer_agrees(hand.number, expected, kept);
-    let check_bounds = told::holds(hand.number, b"check_bounds", within);
-    let ask = asks::beside(hand.number, expected, list, supply);
+    let within = told::answer_agrees(tell, hand.number, expected, kept);
+    let check_bounds = told::holds(tell, hand.number, b"check_bounds", within);
+    let ask = asks::beside(tell, hand.number, expected, list, supply);
     let mut after = hand;
     after.list = list;
     after.supply = supply;
@@ -60,19 +62,20 @@ fn judged(hand: Hand, supply: u32, list: TaskList) -> Hand {
     after
 }
 
-pub(crate) fn list(hand: Hand) -> Hand {
-    let supply = taken::word();
-    let count = taken::size();
+pub(crate) fn list(tell: &mut Teller, input: &mut Input, hand: Hand) -> Hand {
+    let supply = taken::word(input);
+    let count = taken::size(input);
     if 272 < count {
-        return crate::open_if_formed(hand, false);
+        return crate::open_if_formed(tell, hand, false);
     }
-    judged(hand, supply, taken::take_list(count))
+    let list = taken::take_list(input, count);
+    judged(tell, input, hand, supply, list)
 }
 
 // Kind 0 is a run-time, whose tick cost follows, 1 a period, 2 a deadline.
-fn converted(kind: u8, micros: u32, length: u32) -> Slices {
+fn converted(input: &mut Input, kind: u8, micros: u32, length: u32) -> Slices {
     if kind == 0 {
-        let tick = taken::word();
+        let tick = taken::word(input);
         units::runtime_slices(micros, length, tick)
     } else if kind == 1 {
         units::period_slices(micros, length)
@@ -81,28 +84,34 @@ fn converted(kind: u8, micros: u32, length: u32) -> Slices {
     }
 }
 
-fn slices_agree(number: u32, refusal: u32, slices: u32) -> bool {
-    let expected = taken::byte();
-    let refused = told::agrees(number, b"refusal", expected as u32, refusal);
-    let next = taken::word();
-    let counted = told::agrees(number, b"slices", next, slices);
+fn slices_agree(
+    tell: &mut Teller,
+    input: &mut Input,
+    number: u32,
+    refusal: u32,
+    slices: u32,
+) -> bool {
+    let expected = taken::byte(input);
+    let refused = told::agrees(tell, number, b"refusal", expected as u32, refusal);
+    let next = taken::word(input);
+    let counted = told::agrees(tell, number, b"slices", next, slices);
     refused & counted
 }
 
-fn conversion_agrees(number: u32, found: Slices) -> bool {
+fn conversion_agrees(tell: &mut Teller, input: &mut Input, number: u32, found: Slices) -> bool {
     match found {
-        Slices::Count(slices) => slices_agree(number, 0, slices),
-        Slices::Refused => slices_agree(number, 17, 0),
+        Slices::Count(slices) => slices_agree(tell, input, number, 0, slices),
+        Slices::Refused => slices_agree(tell, input, number, 17, 0),
     }
 }
 
-pub(crate) fn conversion(hand: Hand) -> Hand {
-    let kind = taken::byte();
-    let micros = taken::word();
-    let length = taken::word();
+pub(crate) fn conversion(tell: &mut Teller, input: &mut Input, hand: Hand) -> Hand {
+    let kind = taken::byte(input);
+    let micros = taken::word(input);
+    let length = taken::word(input);
     if 2 < kind {
-        return crate::open_if_formed(hand, false);
+        return crate::open_if_formed(tell, hand, false);
     }
-    let found = converted(kind, micros, length);
-    crate::open_if(hand, conversion_agrees(hand.number, found))
+    let found = converted(input, kind, micros, length);
+    crate::open_if(hand, conversion_agrees(tell, input, hand.number, found))
 }

@@ -14,8 +14,11 @@ mod drives; // records of drives
 mod views; // records of the viewer
 mod ends; // the end record
 
+use cases::told::Teller;
 use cases::{Answer, told};
 use run::{Mode, State};
+use std::io;
+use taken::Input;
 use tasks::{Task, TaskList};
 
 // What is held between records. `open` while no record has disagreed and more are to come; `agreed` after an end record
@@ -89,52 +92,70 @@ fn open_if(hand: Hand, agrees: bool) -> Hand {
 }
 
 // The same of a record that is not as the format says.
-fn open_if_formed(hand: Hand, formed: bool) -> Hand {
-    open_if(hand, told::holds(hand.number, b"not in the format", formed))
+fn open_if_formed(tell: &mut Teller, hand: Hand, formed: bool) -> Hand {
+    open_if(
+        hand,
+        told::holds(tell, hand.number, b"not in the format", formed),
+    )
 }
 
-fn on_table(hand: Hand, tag: u8, table: &mut [u8]) -> Hand {
+fn on_table(tell: &mut Teller, input: &mut Input, hand: Hand, tag: u8, table: &mut [u8]) -> Hand {
     match tag {
-        2 => tables::fill(hand, table),
-        3 => tables::bytes(hand, table),
-        4 => tables::byte(hand, table),
-        5 => tables::lent(hand),
-        _ => tables::build(hand, table),
+        2 => tables::fill(tell, input, hand, table),
+        3 => tables::bytes(tell, input, hand, table),
+        4 => tables::byte(tell, input, hand, table),
+        5 => tables::lent(tell, input, hand),
+        _ => tables::build(tell, input, hand, table),
     }
 }
 
-fn on_log(hand: Hand, tag: u8, log: &mut [u8], second: &mut [u8]) -> Hand {
+fn on_log(
+    tell: &mut Teller,
+    input: &mut Input,
+    hand: Hand,
+    tag: u8,
+    log: &mut [u8],
+    second: &mut [u8],
+) -> Hand {
     match tag {
-        7 => logs::fill(hand, log, second),
-        8 => logs::lent(hand),
-        9 => logs::check(hand, log),
-        _ => logs::start(hand, log, second),
+        7 => logs::fill(tell, input, hand, log, second),
+        8 => logs::lent(tell, input, hand),
+        9 => logs::check(tell, input, hand, log),
+        _ => logs::start(tell, input, hand, log, second),
     }
 }
 
-fn on_rest(hand: Hand, tag: u8) -> Hand {
+fn on_rest(tell: &mut Teller, input: &mut Input, hand: Hand, tag: u8) -> Hand {
     match tag {
-        0 => ends::end(hand),
-        1 => lists::list(hand),
-        11 => steps::state(hand),
-        13 => lists::conversion(hand),
-        14 => reads::entry(hand),
-        15 => reads::refusal(hand),
-        16 => reads::logged(hand),
-        18 => asks::ask(hand),
-        19 => views::write(hand),
-        20 => views::file(hand),
-        _ => open_if_formed(hand, false),
+        0 => ends::end(tell, input, hand),
+        1 => lists::list(tell, input, hand),
+        11 => steps::state(tell, input, hand),
+        13 => lists::conversion(tell, input, hand),
+        14 => reads::entry(tell, input, hand),
+        15 => reads::refusal(tell, input, hand),
+        16 => reads::logged(tell, input, hand),
+        18 => asks::ask(tell, input, hand),
+        19 => views::write(tell, input, hand),
+        20 => views::file(tell, input, hand),
+        _ => open_if_formed(tell, hand, false),
     }
 }
 
-fn by_tag(hand: Hand, tag: u8, table: &mut [u8], log: &mut [u8], second: &mut [u8]) -> Hand {
+fn by_tag(
+    tell: &mut Teller,
+    input: &mut Input,
+    hand: Hand,
+    tag: u8,
+    table: &mut [u8],
+    log: &mut [u8],
+    second: &mut [u8],
+) -> Hand {
     match tag {
-        2..=6 => on_table(hand, tag, table),
-        7..=10 => on_log(hand, tag, log, second),
-        12 => steps::step(hand, table, log, second),
-        17 => drives::drive(hand, table, log, second),
-        _ => on_rest(hand, tag),
+        2..=6 => on_table(tell, input, hand, tag, table),
+        7..=10 => on_log(tell, input, hand, tag, log, second),
+        12 => steps::step(tell, input, hand, table, log, second),
+        17 => drives::drive(tell, input, hand, table, log, second),
+        _ => on_rest(tell, input, hand, tag),
     }
 }
 
@@ -144,7 +165,7 @@ fn counted(counts: [u32; 21], tag: u8) -> [u32; 21] {
         return counts;
     }
     let mut after = counts;
-    after[at] = std::num::wrapping_add_u32(counts[at], 1);
+    after[at] = counts[at].wrapping_add(1);
     after
 }
 
@@ -158,26 +179,44 @@ fn with_record(hand: Hand, number: u32, tag: u8) -> Hand {
 }
 
 // Record after record.
-fn replay(table: &mut [u8], log: &mut [u8], second: &mut [u8]) -> Hand {
-    let mut hand = open_if_formed(empty(), taken::take_magic());
+fn replay(
+    tell: &mut Teller,
+    input: &mut Input,
+    table: &mut [u8],
+    log: &mut [u8],
+    second: &mut [u8],
+) -> Hand {
+    let mut hand = open_if_formed(tell, empty(), taken::take_magic(input));
     let mut number: u32 = 0;
     while number < 4294967295 && hand.open {
         number += 1;
-        let tag = taken::take_tag();
-        let next = by_tag(with_record(hand, number, tag), tag, table, log, second);
+        let tag = taken::take_tag(input);
+        let next = by_tag(
+            tell,
+            input,
+            with_record(hand, number, tag),
+            tag,
+            table,
+            log,
+            second,
+        );
         hand = next;
     }
     hand
 }
 
 // The log is held twice: as the library leaves it, and as it should be.
-fn main() {
+fn main(rt: HostRuntime) -> io::Result<()> {
+    let mut tell = Teller::new(rt.stdout());
+    let mut input = Input::new(rt.stdin());
     let mut table = [0u8; 4200];
     let mut log = [0u8; 66000];
     let mut second = [0u8; 66000];
-    let hand = replay(&mut table, &mut log, &mut second);
+    let hand = replay(&mut tell, &mut input, &mut table, &mut log, &mut second);
+    input.finish()?;
     let counts = hand.counts;
     if hand.agreed {
-        ends::summary(counts);
+        ends::summary(&mut tell, counts);
     }
+    tell.finish()
 }

@@ -1,9 +1,9 @@
 // Bytes of a table or a log.
-ghost use Rattle.io.specs.Counts.{IsPrefixLen};
+ghost use Rattle.std.specs.Prelude.{◌≡◌, ◌≤◌, ◌↔◌, length, true};
 
 // So many of the bytes, or all.
 pub(crate) fn within(count: usize, bytes: &[u8]) -> usize
-    ensures { IsPrefixLen result bytes.now }
+    ensures { result ≤ length bytes.now }
 {
     if count < bytes.len() {
         count
@@ -18,7 +18,7 @@ pub(crate) fn pattern(bytes: &mut [u8], fill: u8) {
     let mut i = 0;
     while i < bytes.len() {
         bytes[i] = next;
-        next = std::num::wrapping_add_u8(next, 1);
+        next = next.wrapping_add(1);
         i += 1;
     }
 }
@@ -45,6 +45,13 @@ pub(crate) fn change(bytes: &mut [u8], place: usize, byte: u8) -> bool {
 // The first bytes are copied, if there is room for them.
 pub(crate) fn copied(from: &[u8], to: &mut [u8]) {
     if from.len() <= to.len() {
-        bytes::copy(from, to);
+        to[..from.len()].copy_from_slice(from);
     }
+}
+
+// Whether two runs of bytes are the same.
+pub(crate) fn same(a: &[u8], b: &[u8]) -> bool
+    ensures { result ≡ true ↔ a.now ≡ b.now }
+{
+    a == b
 }

@@ -1,29 +1,37 @@
 // Records of states and steps. A step's record is two calls: who runs, and then the step.
+use crate::taken::Input;
 use crate::{Hand, parts, taken};
 use cases::told;
+use cases::told::Teller;
 use run::{Closed, Runner, State};
 
-pub(crate) fn state(hand: Hand) -> Hand {
-    let given = taken::take_state();
+pub(crate) fn state(tell: &mut Teller, input: &mut Input, hand: Hand) -> Hand {
+    let given = taken::take_state(input);
     let state = given.state;
     let mut after = hand;
     after.state = state;
-    crate::open_if_formed(after, given.formed)
+    crate::open_if_formed(tell, after, given.formed)
 }
 
-fn runner_agrees(number: u32, refusal: u32, task: usize) -> bool {
-    let expected = taken::byte();
-    let refused = told::agrees(number, b"who's refusal", expected as u32, refusal);
-    let next = taken::byte();
-    let named = told::task_agrees(number, next as usize, task);
+fn runner_agrees(
+    tell: &mut Teller,
+    input: &mut Input,
+    number: u32,
+    refusal: u32,
+    task: usize,
+) -> bool {
+    let expected = taken::byte(input);
+    let refused = told::agrees(tell, number, b"who's refusal", expected as u32, refusal);
+    let next = taken::byte(input);
+    let named = told::task_agrees(tell, number, next as usize, task);
     refused & named
 }
 
-fn who_agrees(number: u32, runner: Runner) -> bool {
+fn who_agrees(tell: &mut Teller, input: &mut Input, number: u32, runner: Runner) -> bool {
     match runner {
-        Runner::Idle => runner_agrees(number, 0, 0),
-        Runner::Task(task) => runner_agrees(number, 0, task),
-        Runner::Refused(refusal) => runner_agrees(number, refusal, 0),
+        Runner::Idle => runner_agrees(tell, input, number, 0, 0),
+        Runner::Task(task) => runner_agrees(tell, input, number, 0, task),
+        Runner::Refused(refusal) => runner_agrees(tell, input, number, refusal, 0),
     }
 }
 
@@ -44,23 +52,35 @@ fn sum_of(state: State, log: &[u8]) -> u32 {
 }
 
 // A step's refusal, and the checksum of its state and log.
-fn step_agrees(number: u32, closed: Closed, sum: u32) -> bool {
-    let expected = taken::byte();
-    let refused = told::agrees(number, b"refusal", expected as u32, refusal_of(closed));
-    let next = taken::word();
-    let summed = told::agrees(number, b"state", next, sum);
+fn step_agrees(
+    tell: &mut Teller,
+    input: &mut Input,
+    number: u32,
+    closed: Closed,
+    sum: u32,
+) -> bool {
+    let expected = taken::byte(input);
+    let refused = told::agrees(
+        tell,
+        number,
+        b"refusal",
+        expected as u32,
+        refusal_of(closed),
+    );
+    let next = taken::word(input);
+    let summed = told::agrees(tell, number, b"state", next, sum);
     refused & summed
 }
 
-fn stepped(hand: Hand, table: &[u8], log: &mut [u8]) -> Hand {
-    let clock = taken::word();
-    let report = taken::byte();
+fn stepped(tell: &mut Teller, input: &mut Input, hand: Hand, table: &[u8], log: &mut [u8]) -> Hand {
+    let clock = taken::word(input);
+    let report = taken::byte(input);
     let before = hand.state;
-    let who = who_agrees(hand.number, run::who(before, table));
+    let who = who_agrees(tell, input, hand.number, run::who(before, table));
     let next = run::step(before, table, log, clock, report);
     let closed = next.answer;
     let state = next.state;
-    let step = step_agrees(hand.number, closed, sum_of(state, log));
+    let step = step_agrees(tell, input, hand.number, closed, sum_of(state, log));
     let mut after = hand;
     after.state = state;
     after.open = who & step;
@@ -68,44 +88,67 @@ fn stepped(hand: Hand, table: &[u8], log: &mut [u8]) -> Hand {
 }
 
 // The changes of the log that the record names: whether each is one, places rising.
-fn changes_made(log: &mut [u8], changes: u8) -> bool {
+fn changes_made(input: &mut Input, log: &mut [u8], changes: u8) -> bool {
     let mut fine = true;
     let mut from = 0;
     let mut i = 0;
     while i < changes {
-        let place = taken::size();
-        let byte = taken::byte();
+        let place = taken::size(input);
+        let byte = taken::byte(input);
         let made = parts::change(log, place, byte);
         fine = fine & made & (from <= place);
-        from = std::num::wrapping_add_usize(place, 1);
+        from = place.wrapping_add(1);
         i += 1;
     }
     fine
 }
 
 // Whether the log has seen the changes that the record names, and no others.
-fn log_agrees(number: u32, log: &[u8], second: &mut [u8]) -> bool {
-    let changes = taken::byte();
-    let made = changes_made(second, changes);
+fn log_agrees(
+    tell: &mut Teller,
+    input: &mut Input,
+    number: u32,
+    log: &[u8],
+    second: &mut [u8],
+) -> bool {
+    let changes = taken::byte(input);
+    let made = changes_made(input, second, changes);
     told::holds(
+        tell,
         number,
         b"changes of the log",
-        made & check::same(log, second),
+        made & parts::same(log, second),
     )
 }
 
-fn both_agree(hand: Hand, table: &[u8], log: &mut [u8], second: &mut [u8]) -> Hand {
-    let after = stepped(hand, table, log);
-    let logged = log_agrees(hand.number, log, second);
+fn both_agree(
+    tell: &mut Teller,
+    input: &mut Input,
+    hand: Hand,
+    table: &[u8],
+    log: &mut [u8],
+    second: &mut [u8],
+) -> Hand {
+    let after = stepped(tell, input, hand, table, log);
+    let logged = log_agrees(tell, input, hand.number, log, second);
     crate::open_if(after, after.open & logged)
 }
 
 // With the parts that are lent.
-pub(crate) fn step(hand: Hand, table: &[u8], log: &mut [u8], second: &mut [u8]) -> Hand {
+pub(crate) fn step(
+    tell: &mut Teller,
+    input: &mut Input,
+    hand: Hand,
+    table: &[u8],
+    log: &mut [u8],
+    second: &mut [u8],
+) -> Hand {
     let entries = parts::within(hand.table_lent, table);
     let bytes = parts::within(hand.log_lent, log);
     let room = parts::within(hand.log_lent, second);
     both_agree(
+        tell,
+        input,
         hand,
         &table[..entries],
         &mut log[..bytes],

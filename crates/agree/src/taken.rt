@@ -1,14 +1,51 @@
 // Numbers from standard input, little-endian, and what they make. Bytes that are not there read as 0: no tag follows them.
 ghost use Rattle.std.specs.Prelude.{◌≤◌};
 
+use crate::parts;
 use cases::Answer;
-use libc::STDIN_FILENO;
 use run::{Mode, State};
+use std::io;
+use std::io::Stdin;
 use tasks::{Task, TaskList};
 
-pub(crate) fn byte() -> u8 {
+// Where the numbers come from. The first read that fails is kept, and nothing is read after it.
+#[derive(Drop)]
+pub(crate) struct Input {
+    from: Stdin,
+    failed: Option<io::Error>,
+}
+
+impl Input {
+    pub(crate) fn new(from: Stdin) -> Input {
+        Input { from, failed: None }
+    }
+
+    // Fills the bytes, as far as there are some, and answers how many came.
+    pub(crate) fn fill(&mut self, bytes: &mut [u8]) -> usize {
+        if self.failed.is_some() {
+            return 0;
+        }
+        match streams::read_full(&mut self.from, bytes) {
+            Ok(got) => got,
+            Err(error) => {
+                self.failed = Some(error);
+                0
+            }
+        }
+    }
+
+    // The error of the read that failed, if one did.
+    pub(crate) fn finish(self) -> io::Result<()> {
+        match self.failed {
+            Some(error) => Err(error),
+            None => Ok(()),
+        }
+    }
+}
+
+pub(crate) fn byte(input: &mut Input) -> u8 {
     let mut b = [0u8; 1];
-    io::read_full(STDIN_FILENO, &mut b);
+    input.fill(&mut b);
     b[0]
 }
 
@@ -20,36 +57,36 @@ fn word_of(b: &[u8; 4]) -> u32 {
     joined(b[0], b[1], b[2], b[3])
 }
 
-pub(crate) fn word() -> u32 {
+pub(crate) fn word(input: &mut Input) -> u32 {
     let mut b = [0u8; 4];
-    io::read_full(STDIN_FILENO, &mut b);
+    input.fill(&mut b);
     word_of(&b)
 }
 
 // A length, a place or a task.
-pub(crate) fn size() -> usize {
-    word() as usize
+pub(crate) fn size(input: &mut Input) -> usize {
+    word(input) as usize
 }
 
 // A count of 64 bits.
-pub(crate) fn wide_size() -> usize {
-    let low = word();
-    let high = word();
+pub(crate) fn wide_size(input: &mut Input) -> usize {
+    let low = word(input);
+    let high = word(input);
     (high as u64 * 4294967296 + low as u64) as usize
 }
 
 // How many needs or ends there are. More than 4,200 are not in the format: 0 then, and what follows disagrees.
-pub(crate) fn few() -> usize
+pub(crate) fn few(input: &mut Input) -> usize
     ensures { result ≤ 4200 }
 {
-    let count = size();
+    let count = size(input);
     if 4200 < count { 0 } else { count }
 }
 
-pub(crate) fn words(all: &mut [u32]) {
+pub(crate) fn words(input: &mut Input, all: &mut [u32]) {
     let mut i = 0;
     while i < all.len() {
-        all[i] = word();
+        all[i] = word(input);
         i += 1;
     }
 }
@@ -61,14 +98,14 @@ fn signed(w: u32) -> i32 {
     (w as i64 - 4294967296) as i32
 }
 
-pub(crate) fn take_answer() -> Answer {
-    let refusal = byte();
-    let task = byte();
-    let margin = word();
-    let cycle = word();
-    let jobs = word();
-    let reached = word();
-    let period = word();
+pub(crate) fn take_answer(input: &mut Input) -> Answer {
+    let refusal = byte(input);
+    let task = byte(input);
+    let margin = word(input);
+    let cycle = word(input);
+    let jobs = word(input);
+    let reached = word(input);
+    let period = word(input);
     Answer {
         refusal: refusal as u32,
         task: task as usize,
@@ -81,12 +118,12 @@ pub(crate) fn take_answer() -> Answer {
 }
 
 // What a call on the viewer comes to, in an answer's numbers: refusal 255 is a no, and the task is what is given, or 18's place.
-pub(crate) fn take_viewed() -> Answer {
-    let refusal = byte();
-    let task = size();
-    let margin = word();
-    let reached = word();
-    let period = word();
+pub(crate) fn take_viewed(input: &mut Input) -> Answer {
+    let refusal = byte(input);
+    let task = size(input);
+    let margin = word(input);
+    let reached = word(input);
+    let period = word(input);
     Answer {
         refusal: refusal as u32,
         task,
@@ -98,11 +135,11 @@ pub(crate) fn take_viewed() -> Answer {
     }
 }
 
-fn take_task() -> Task {
-    let period = word();
-    let runtime = word();
-    let memory = word();
-    let deadline = word();
+fn take_task(input: &mut Input) -> Task {
+    let period = word(input);
+    let runtime = word(input);
+    let memory = word(input);
+    let deadline = word(input);
     Task {
         period,
         runtime,
@@ -122,7 +159,7 @@ fn keep(tasks: [Task; 16], i: usize, task: Task) -> [Task; 16] {
 }
 
 // The tasks of a list that is so long.
-pub(crate) fn take_list(count: usize) -> TaskList {
+pub(crate) fn take_list(input: &mut Input, count: usize) -> TaskList {
     let mut tasks = [Task {
         period: 0,
         runtime: 0,
@@ -131,30 +168,35 @@ pub(crate) fn take_list(count: usize) -> TaskList {
     }; 16];
     let mut i = 0;
     while i < count {
-        let after = keep(tasks, i, take_task());
+        let after = keep(tasks, i, take_task(input));
         tasks = after;
         i += 1;
     }
     TaskList { tasks, count }
 }
 
-fn take_tasks(periods: &mut [u32; 16], deadlines: &mut [u32; 16], runtimes: &mut [u32; 16]) {
+fn take_tasks(
+    input: &mut Input,
+    periods: &mut [u32; 16],
+    deadlines: &mut [u32; 16],
+    runtimes: &mut [u32; 16],
+) {
     let mut i = 0;
     while i < 16 {
-        periods[i] = word();
-        deadlines[i] = word();
-        runtimes[i] = word();
+        periods[i] = word(input);
+        deadlines[i] = word(input);
+        runtimes[i] = word(input);
         i += 1;
     }
 }
 
 // Whether each byte that says if a job has ended is 0 or 1.
-fn take_jobs(used: &mut [u32; 16], ended: &mut [bool; 16]) -> bool {
+fn take_jobs(input: &mut Input, used: &mut [u32; 16], ended: &mut [bool; 16]) -> bool {
     let mut formed = true;
     let mut i = 0;
     while i < 16 {
-        used[i] = word();
-        let said = byte();
+        used[i] = word(input);
+        let said = byte(input);
         ended[i] = said == 1;
         formed = formed & (said <= 1);
         i += 1;
@@ -177,19 +219,19 @@ pub(crate) struct Given {
     pub formed: bool,
 }
 
-pub(crate) fn take_state() -> Given {
-    let count = wide_size();
-    let cycle = word();
-    let position = word();
-    let clock = word();
-    let mode = byte();
+pub(crate) fn take_state(input: &mut Input) -> Given {
+    let count = wide_size(input);
+    let cycle = word(input);
+    let position = word(input);
+    let clock = word(input);
+    let mode = byte(input);
     let mut periods = [0u32; 16];
     let mut deadlines = [0u32; 16];
     let mut runtimes = [0u32; 16];
-    take_tasks(&mut periods, &mut deadlines, &mut runtimes);
+    take_tasks(input, &mut periods, &mut deadlines, &mut runtimes);
     let mut used = [0u32; 16];
     let mut ended = [false; 16];
-    let formed = take_jobs(&mut used, &mut ended);
+    let formed = take_jobs(input, &mut used, &mut ended);
     Given {
         state: State {
             periods,
@@ -214,11 +256,11 @@ pub(crate) struct Last {
     pub formed: bool,
 }
 
-pub(crate) fn take_last() -> Last {
+pub(crate) fn take_last(input: &mut Input) -> Last {
     let mut b = [0u8; 4];
-    let got = io::read_full(STDIN_FILENO, &mut b);
+    let got = input.fill(&mut b);
     let mut more = [0u8; 1];
-    let beyond = io::read_full(STDIN_FILENO, &mut more);
+    let beyond = input.fill(&mut more);
     Last {
         count: word_of(&b),
         formed: (got == 4) & (beyond == 0),
@@ -226,15 +268,15 @@ pub(crate) fn take_last() -> Last {
 }
 
 // Whether the file opens as it has to.
-pub(crate) fn take_magic() -> bool {
+pub(crate) fn take_magic(input: &mut Input) -> bool {
     let mut magic = [0u8; 8];
-    io::read_full(STDIN_FILENO, &mut magic);
-    check::same(&magic, b"SLICES07")
+    input.fill(&mut magic);
+    parts::same(&magic, b"SLICES07")
 }
 
 // A record's tag, or one that is none at the end of the input.
-pub(crate) fn take_tag() -> u8 {
+pub(crate) fn take_tag(input: &mut Input) -> u8 {
     let mut tag = [255u8; 1];
-    io::read_full(STDIN_FILENO, &mut tag);
+    input.fill(&mut tag);
     tag[0]
 }

@@ -10,9 +10,12 @@ ghost use Rattle.printing.specs.Text.{needs_text};
 ghost use Rattle.printing.specs.Written.{Written};
 ghost use Rattle.output.specs.Explain.{jobs_in, ExplainAnswers};
 
+use anyhow::{Context, Result, bail};
 use explain::Viewed;
-use libc::STDOUT_FILENO;
 use records::Form;
+use std::env::Env;
+use std::fs;
+use std::fs::Files;
 use tasks::{Bounds, TaskList};
 
 // How many jobs each task has in the cycle.
@@ -71,36 +74,26 @@ fn answer(input: &[u8], file: &[u8], out: &mut [u8]) -> usize
     }
 }
 
-// Opens the file that an argument names; or says why it cannot be, and answers a number below 0.
-fn open_named(i: usize) -> i32 {
-    let mut name = io::buffer();
-    let length = os::arg(i, &mut name);
-    if os::errno() != 0 {
-        os::fail(b"a file name");
-        return -1;
-    }
-    let opened = os::open_read(&name[..length]);
-    if opened < 0 {
-        os::fail(&name[..length]);
-    }
-    opened
+// Opens the file that an argument names; or says why it cannot be.
+fn open_named<R: Env + Files>(rt: &R, i: usize) -> Result<R::File> {
+    let mut name = [0u8; 4096];
+    let Ok(length) = rt.arg(i, &mut name) else {
+        bail!("a file name");
+    };
+    let name = str::from_utf8(&name[..length]).context("a file name")?;
+    fs::open(rt, name).context(format_args!("{name}"))
 }
 
 // One byte more than a list or a good file may have is enough to tell that it is too long.
-fn main() {
-    let list = open_named(1);
-    if list < 0 {
-        return;
-    }
-    let file = open_named(2);
-    if file < 0 {
-        return;
-    }
+fn main(rt: HostRuntime) -> Result<()> {
+    let mut list = open_named(&rt, 1)?;
+    let mut file = open_named(&rt, 2)?;
     let mut input = [0u8; 4097];
-    let got = io::read_full(list, &mut input);
+    let got = streams::read_full(&mut list, &mut input)?;
     let mut dump = [0u8; 61556];
-    let had = io::read_full(file, &mut dump);
+    let had = streams::read_full(&mut file, &mut dump)?;
     let mut out = [0u8; 81935];
     let length = answer(&input[..got], &dump[..had], &mut out);
-    io::write_all(STDOUT_FILENO, &out[..length]);
+    rt.stdout().write_all(&out[..length])?;
+    Ok(())
 }

@@ -3,6 +3,7 @@
 
 use bench::{SLICE, SUPPLY, TICK};
 use start::Asked;
+use std::io;
 use tasks::{Task, TaskList};
 
 // Positioner, power meter, sweep, link watch, log writer: period and run-time in microseconds, memory in words, and the deadline,
@@ -22,7 +23,7 @@ fn list() -> TaskList {
     TaskList { tasks, count: 5 }
 }
 
-fn main() {
+fn main(rt: HostRuntime) -> io::Result<()> {
     // In slices; the needs stand as the log does.
     let needs: [u32; 31] = [
         // positioner
@@ -50,5 +51,5 @@ fn main() {
         &mut log,
         &mut ends,
     );
-    sheet::print(b"night", tasks, driven, &log, &ends);
+    sheet::print(&rt, b"night", tasks, driven, &log, &ends)
 }

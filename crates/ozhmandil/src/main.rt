@@ -8,8 +8,8 @@ ghost use Rattle.verdict.specs.Verdict.{verdict_answer};
 ghost use Rattle.records.specs.Grammar.{form_answer};
 ghost use Rattle.output.specs.Output.{record_of, Answers, note_of, Noted};
 
-use libc::{STDERR_FILENO, STDIN_FILENO, STDOUT_FILENO};
 use records::Form;
+use std::io;
 use verdict::Verdict;
 
 // The refusal record of an input that is not in form.
@@ -101,13 +101,13 @@ fn answer(input: &[u8], table: &mut [u8], out: &mut [u8], words: &mut [u8]) -> L
 }
 
 // One byte more than an input may have is enough to tell that it is too long.
-fn main() {
+fn main(rt: HostRuntime) -> io::Result<()> {
     let mut input = [0u8; 4097];
-    let got = io::read_full(STDIN_FILENO, &mut input);
+    let got = streams::read_full(&mut rt.stdin(), &mut input)?;
     let mut table = [0u8; 4096];
     let mut out = [0u8; 40972];
     let mut words = [0u8; 39];
     let lengths = answer(&input[..got], &mut table, &mut out, &mut words);
-    io::write_all(STDOUT_FILENO, &out[..lengths.answer]);
-    io::write_all(STDERR_FILENO, &words[..lengths.note]);
+    rt.stdout().write_all(&out[..lengths.answer])?;
+    rt.stderr().write_all(&words[..lengths.note])
 }

@@ -5,8 +5,8 @@
 ghost use Rattle.std.specs.Prelude.{◌≤◌, length};
 ghost use Rattle.output.specs.Vcd.{VcdAnswers};
 
-use libc::{STDIN_FILENO, STDOUT_FILENO};
 use records::Form;
+use std::io;
 use verdict::Verdict;
 
 // What is to be printed for an input, and how long it is. There is room for the dump of every table.
@@ -37,10 +37,10 @@ fn answer(input: &[u8], out: &mut [u8]) -> usize
 }
 
 // One byte more than an input may have is enough to tell that it is too long.
-fn main() {
+fn main(rt: HostRuntime) -> io::Result<()> {
     let mut input = [0u8; 4097];
-    let got = io::read_full(STDIN_FILENO, &mut input);
+    let got = streams::read_full(&mut rt.stdin(), &mut input)?;
     let mut out = [0u8; 61555];
     let length = answer(&input[..got], &mut out);
-    io::write_all(STDOUT_FILENO, &out[..length]);
+    rt.stdout().write_all(&out[..length])
 }
