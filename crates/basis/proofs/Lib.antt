@@ -1,2 +1,2 @@
--- Lemmas.
+-- Laws of what specs/ defines.
 pub mod Slices

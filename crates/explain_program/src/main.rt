@@ -13,7 +13,7 @@ ghost use Rattle.output.specs.Explain.{jobs_in, ExplainAnswers};
 use anyhow::{Context, Result, bail};
 use explain::Viewed;
 use records::Form;
-use std::env::Env;
+use std::env::{Env, FillError};
 use std::fs;
 use std::fs::Files;
 use tasks::{Bounds, TaskList};
@@ -77,8 +77,10 @@ fn answer(input: &[u8], file: &[u8], out: &mut [u8]) -> usize
 // Opens the file that an argument names; or says why it cannot be.
 fn open_named<R: Env + Files>(rt: &R, i: usize) -> Result<R::File> {
     let mut name = [0u8; 4096];
-    let Ok(length) = rt.arg(i, &mut name) else {
-        bail!("a file name");
+    let length = match rt.arg(i, &mut name) {
+        Ok(length) => length,
+        Err(FillError::NotPresent) => bail!("a file name: none is given"),
+        Err(FillError::TooLong) => bail!("a file name: longer than 4096 bytes"),
     };
     let name = str::from_utf8(&name[..length]).context("a file name")?;
     fs::open(rt, name).context(format_args!("{name}"))

@@ -1,4 +1,4 @@
--- Lemmas.
+-- The theory of plans: laws of what specs/ defines, and the theorems that the promises rest on.
 pub mod Rank
 pub mod Order
 pub mod Work

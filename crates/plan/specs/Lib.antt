@@ -1,4 +1,4 @@
--- A plan of tasks in slices: the definitions (Plan), and the theorems on them, each file above those that it uses.
+-- A plan of tasks in slices: the definitions (Plan), and what the theorems on them are stated with; those stand in proofs/.
 pub mod Plan
 pub mod Rank
 pub mod Order

@@ -1,4 +1,4 @@
--- Lemmas.
+-- What proves the statements of specs/.
 pub mod ClashHolds
 pub mod Demand1Holds
 pub mod ViewerHolds

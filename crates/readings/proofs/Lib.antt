@@ -1,2 +1,2 @@
--- Lemmas.
+-- Laws of the readings.
 pub mod Laws

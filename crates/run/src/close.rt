@@ -47,9 +47,9 @@ pub(crate) fn use_slice(used: &mut [u32; 16], ran: usize) -> u32
 }
 
 // 1 for a job that finished, 2 for one that this slice completes, 0 for none of these.
-pub(crate) fn result_of(runtimes: &[u32; 16], ran: usize, in_all: u32, report: u8) -> u8
+pub(crate) fn result_of(runtimes: &[u32; 16], ran: usize, total: u32, report: u8) -> u8
     requires { ran ≤ 16 }
-    ensures { result ≡ result_byte runtimes.now ran in_all report }
+    ensures { result ≡ result_byte runtimes.now ran total report }
 {
     if ran == 0 {
         return 0;
@@ -57,7 +57,7 @@ pub(crate) fn result_of(runtimes: &[u32; 16], ran: usize, in_all: u32, report: u
     if report == 1 {
         return 1;
     }
-    if in_all == runtimes[ran - 1] {
+    if total == runtimes[ran - 1] {
         return 2;
     }
     0

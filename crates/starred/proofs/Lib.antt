@@ -1,2 +1,2 @@
--- Lemmas.
+-- What proves the answers on the paper's lists.
 pub mod Starred

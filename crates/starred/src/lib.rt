@@ -1,2 +1,2 @@
-// The starred lists of the paper. No code: the statement and its proof stand in specs/.
+// The starred lists of the paper. No code: the statement stands in specs/, its proof in proofs/.
 #![tactic(auto)]

@@ -1,2 +1,2 @@
--- Lemmas.
+-- Laws of the conversions.
 pub mod Laws

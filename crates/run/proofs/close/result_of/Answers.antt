@@ -12,10 +12,10 @@ pub returns-then-report-eq1 : goal.returns-then-report-eq1
 unfolding result_byte choose
 returns-then-report-eq1 c = rw (ne_eqb _ _ c.if-ran-eq0.false, eq-eqb _ _ c.if-report-eq1.true)
 
-pub returns-then-in_all-runtimes : goal.returns-then-in_all-runtimes
+pub returns-then-total-runtimes : goal.returns-then-total-runtimes
 unfolding result_byte choose
-returns-then-in_all-runtimes c = rw (ne_eqb _ _ c.if-ran-eq0.false, ne_eqb _ _ c.if-report-eq1.false, eq-eqb _ _ c.if-in_all-runtimes.true)
+returns-then-total-runtimes c = rw (ne_eqb _ _ c.if-ran-eq0.false, ne_eqb _ _ c.if-report-eq1.false, eq-eqb _ _ c.if-total-runtimes.true)
 
 pub returns : goal.returns
 unfolding result_byte choose
-returns c = rw (ne_eqb _ _ c.if-ran-eq0.false, ne_eqb _ _ c.if-report-eq1.false, ne_eqb _ _ c.if-in_all-runtimes.false)
+returns c = rw (ne_eqb _ _ c.if-ran-eq0.false, ne_eqb _ _ c.if-report-eq1.false, ne_eqb _ _ c.if-total-runtimes.false)
