@@ -1,100 +1,62 @@
 // Records of the quick question, and the same question beside a verdict.
-use crate::taken::Input;
-use crate::{Hand, taken};
-use cases::told::Teller;
-use cases::{Answer, told};
-use quick::Quick;
-use tasks::TaskList;
+use crate::Replay;
+use cases::Answer;
+use tasks::{Refusal, TaskList};
 
-// A refusal and the task that it names; both are 0 of an accepted list.
-#[derive(Clone, Copy)]
-struct Named {
-    refusal: u32,
-    task: usize,
+// The quick question names a refusal and its task, and no other number.
+fn answer_of(answer: Result<(), Refusal>) -> Answer {
+    match answer {
+        Ok(()) => Answer::default(),
+        Err(refusal) => named(refusal.number(), refusal.task()),
+    }
 }
 
-fn of(answer: Quick) -> Named {
-    match answer {
-        Quick::Accepted => Named {
-            refusal: 0,
-            task: 0,
-        },
-        Quick::Refused { number, task } => Named {
-            refusal: number,
-            task,
-        },
+fn named(refusal: u32, task: usize) -> Answer {
+    Answer {
+        refusal,
+        task,
+        ..Answer::default()
     }
 }
 
 // What is expected where the verdict is such: accepted, no task is named.
-fn without_margin(verdict: Answer) -> Named {
+fn without_margin(verdict: Answer) -> Answer {
     if verdict.refusal == 0 {
-        return Named {
-            refusal: 0,
-            task: 0,
+        Answer::default()
+    } else {
+        named(verdict.refusal, verdict.task)
+    }
+}
+
+impl Replay {
+    // The question of a list by value, and lent as a run of records.
+    fn asks_agree(&mut self, expected: Answer, list: TaskList, supply: u32) -> bool {
+        let by_value = answer_of(quick::ask(list, supply));
+        let ask = self.call_agrees("ask", expected, by_value);
+        let lent = answer_of(lent::ask_list(list, supply));
+        let ask_list = self.call_agrees("ask_list", expected, lent);
+        ask & ask_list
+    }
+
+    // The question of a list whose verdict is expected to be such.
+    pub(crate) fn asks_agree_beside(
+        &mut self,
+        verdict: Answer,
+        list: TaskList,
+        supply: u32,
+    ) -> bool {
+        self.asks_agree(without_margin(verdict), list, supply)
+    }
+
+    // The question of a list of its own; the list in hand stays.
+    pub(crate) fn quick(&mut self) -> bool {
+        let supply = self.input.word();
+        let Some(list) = self.input.list() else {
+            return self.formed(false);
         };
+        let refusal = self.input.byte();
+        let task = self.input.byte();
+        let expected = named(u32::from(refusal), usize::from(task));
+        self.asks_agree(expected, list, supply)
     }
-    Named {
-        refusal: verdict.refusal,
-        task: verdict.task,
-    }
-}
-
-fn agree(tell: &mut Teller, number: u32, what: &[u8], expected: Named, found: Named) -> bool {
-    let refusal = told::agrees(tell, number, b"refusal", expected.refusal, found.refusal);
-    let task = told::task_agrees(tell, number, expected.task, found.task);
-    told::holds(tell, number, what, refusal & task)
-}
-
-// The list by value, and lent as a run of records.
-fn both_agree(
-    tell: &mut Teller,
-    number: u32,
-    expected: Named,
-    list: TaskList,
-    supply: u32,
-) -> bool {
-    let ask = agree(tell, number, b"ask", expected, of(quick::ask(list, supply)));
-    let ask_list = agree(
-        tell,
-        number,
-        b"ask_list",
-        expected,
-        of(lent::ask_list(list, supply)),
-    );
-    ask & ask_list
-}
-
-// The question of a list whose verdict is expected to be such.
-pub(crate) fn beside(
-    tell: &mut Teller,
-    number: u32,
-    verdict: Answer,
-    list: TaskList,
-    supply: u32,
-) -> bool {
-    both_agree(tell, number, without_margin(verdict), list, supply)
-}
-
-fn expected(input: &mut Input) -> Named {
-    let refusal = taken::byte(input);
-    let task = taken::byte(input);
-    Named {
-        refusal: refusal as u32,
-        task: task as usize,
-    }
-}
-
-// The question of a list of its own; the list in hand stays.
-pub(crate) fn ask(tell: &mut Teller, input: &mut Input, hand: Hand) -> Hand {
-    let supply = taken::word(input);
-    let count = taken::size(input);
-    if 272 < count {
-        return crate::open_if_formed(tell, hand, false);
-    }
-    let list = taken::take_list(input, count);
-    crate::open_if(
-        hand,
-        both_agree(tell, hand.number, expected(input), list, supply),
-    )
 }

@@ -1,14 +1,15 @@
 -- What the one who runs reports, from what `run::who` answers.
-use Rattle.std.proofs.Common.{◌≡◌, ℕ, zero, suc, ◌+◌, ◌<◌, ◌≤◌, ltb, List, get_or, sym, refl, ap, ◌∙◌, arith, lt-ltb, eq-eqb, ne_eqb}
-use Rattle.basis.specs.Choose.{choose, choose_yes, choose_no}
+use Rattle.std.proofs.Common.{◌≡◌, ℕ, zero, suc, ◌+◌, ◌<◌, ◌≤◌, Bool, true, false, ltb, ◌==◌, List, get_or, sym, refl, ap, ◌∙◌, arith, lt-ltb}
+use Rattle.std.specs.Int.{from_bool}
+use Rattle.basis.specs.Choose.{choose, choose_yes}
 use Rattle.plan.specs.Plan.{Demand}
 use Rattle.run.specs.declared.State.{State}
-use Rattle.run.specs.declared.Runner.{Runner}
-use Rattle.run.specs.declared.Runner.TheVariants.{Task}
+use Rattle.std.specs.Prelude.{Option, Some, Result, Ok}
+use Rattle.run.specs.declared.Refusal.{Refusal}
 use Rattle.run.specs.State.{current_of, job_of, place, place_in}
 use Rattle.run.specs.Sound.{SoundState}
 use Rattle.run.specs.Places.{place_by_numbers}
-use Rattle.run.specs.Who.{running, who_refusal, of_entry, answered, who_of, runner_answer}
+use Rattle.run.specs.Who.{running, who_refusal, unless_refused, of_entry, answered, who_of, runner_answer}
 use Rattle.run.specs.Accepted.{who_accepted, running_to}
 use Rattle.bench.specs.Course.{report_of, report_in, need_in}
 
@@ -31,24 +32,27 @@ module _ (needs : List ℕ) (s : State) where
     unfolding need_in place
     need_is = found ∙ ap (λ (x : ℕ). get_or needs x 0) stands
 
-    pub report_finished : (job_of s i).used + 1 ≡ need → 1 ≡ report_of (need_in needs s) s ran
-    unfolding report_of
-    report_finished e = sym (ap (report_of (need_in needs s) s) runs ∙ choose_yes _ 1 0 (eq-eqb _ _ (e ∙ need_is)))
+    -- finished exactly where its count reaches its need
+    told_as_digit : (finished : Bool) → from_bool finished ≡ choose finished 1 0
+    unfolding choose
+    told_as_digit true = refl
+    told_as_digit false = refl
 
-    pub report_working : ((job_of s i).used + 1 ≡ need → ⊥) → 0 ≡ report_of (need_in needs s) s ran
+    pub report_told : (report : ℕ) → report ≡ from_bool ((job_of s i).used + 1 == need) → report ≡ report_of (need_in needs s) s ran
     unfolding report_of
-    report_working ne = sym (ap (report_of (need_in needs s) s) runs ∙ choose_no _ 1 0 (ne_eqb _ _ (λ e. ne (e ∙ sym need_is))))
+    report_told report told =
+        told ∙ told_as_digit _ ∙ ap (λ (n : ℕ). choose ((job_of s i).used + 1 == n) 1 0) need_is ∙ sym (ap (report_of (need_in needs s) s) runs)
 
 -- ---- who runs
 -- A task is answered only where asking is accepted, and it is the one that runs.
-task_told : (refusal entry n : ℕ) → answered refusal entry ≡ Task n → (refusal ≡ 0) × (entry ≡ n)
-unfolding answered of_entry
+task_told : (refusal entry n : ℕ) → answered refusal entry ≡ Ok (Some n) → (refusal ≡ 0) × (entry ≡ n)
+unfolding answered unless_refused of_entry
 task_told zero zero n e = let z : ◌≡◌ {A = ℕ} 0 1 = cc in absurd (omega arith)
 task_told zero (suc i) n e = (refl, cc)
 task_told (suc m) entry n e = let z : ◌≡◌ {A = ℕ} 0 1 = cc in absurd (omega arith)
 
-module _ (s : State) (table : List ℕ) (r : Runner) (told : r ≡ who_of s table) where
-  pub runs_in : (n : ℕ) → r ≡ Task n → SoundState s × (n ≤ s.count)
+module _ (s : State) (table : List ℕ) (r : Result (Option ℕ) Refusal) (told : r ≡ who_of s table) where
+  pub runs_in : (n : ℕ) → r ≡ Ok (Some n) → SoundState s × (n ≤ s.count)
   unfolding who_of
   runs_in n e =
       let h = task_told (who_refusal s table) (running s table) n (sym told ∙ e) in
@@ -58,4 +62,4 @@ module _ (s : State) (table : List ℕ) (r : Runner) (told : r ≡ who_of s tabl
   module _ (need : Demand) where
     pub told_reports : (n report : ℕ) → (runner_answer r).task ≡ n → report ≡ report_of need s n → report ≡ report_in table need s
     unfolding report_in
-    told_reports n report e er = er ∙ ap (report_of need s) (sym e ∙ ap (λ (x : Runner). (runner_answer x).task) told)
+    told_reports n report e er = er ∙ ap (report_of need s) (sym e ∙ ap (λ (x : Result (Option ℕ) Refusal). (runner_answer x).task) told)

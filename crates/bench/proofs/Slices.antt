@@ -1,7 +1,8 @@
 -- What closing a slice comes to, from what the step answers.
 use Rattle.std.proofs.Common.{◌≡◌, ℕ, List, sym, ◌∙◌}
 use Rattle.plan.specs.Plan.{Demand}
-use Rattle.run.specs.declared.Closed.TheVariants.{Accepted, Refused}
+use Rattle.std.specs.Prelude.{Ok, Err}
+use Rattle.run.specs.declared.Refusal.{Refusal}
 use Rattle.run.specs.declared.Next.{Next}
 use Rattle.run.specs.Step.{next_clock, answer_of, Stepped}
 use Rattle.bench.specs.Course.{Course, report_in, noted, refusal_in, state_in, log_in, ends_by, closed, SliceClosed}
@@ -20,7 +21,7 @@ module _ (table : List ℕ) (need : Demand) (c : Course) (clock report : ℕ) (n
   unfolding refusal_in log_in
   log_is = cc S.bytes
 
-  pub accepted_slice : (ends' : List ℕ) → r.answer ≡ Accepted → ends' ≡ noted log' r.state.position c.ends → SliceClosed table need c log' ends' r
+  pub accepted_slice : (ends' : List ℕ) → r.answer ≡ Ok tt → ends' ≡ noted log' r.state.position c.ends → SliceClosed table need c log' ends' r
   unfolding closed ends_by
   accepted_slice ends' went e = record {
     answer = answer_is;
@@ -29,6 +30,6 @@ module _ (table : List ℕ) (need : Demand) (c : Course) (clock report : ℕ) (n
         rw (sym answer_is ∙ went) (cc (state_is, log_is));
   }
 
-  pub refused_slice : (number : ℕ) → r.answer ≡ Refused number → SliceClosed table need c log' c.ends r
+  pub refused_slice : (e : Refusal) → r.answer ≡ Err e → SliceClosed table need c log' c.ends r
   unfolding closed ends_by
-  refused_slice number failed = record { answer = answer_is; after = rw (sym answer_is ∙ failed) (cc (state_is, log_is)) }
+  refused_slice e failed = record { answer = answer_is; after = rw (sym answer_is ∙ failed) (cc (state_is, log_is)) }

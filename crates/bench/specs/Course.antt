@@ -1,12 +1,11 @@
 -- The course of a run: what is held after so many slices, each closed with the report that the job's need makes, and the
 -- position at which each job was logged.
-use Rattle.std.specs.Prelude.{◌≡◌, ℕ, zero, suc, ◌+◌, ◌<◌, List, length, ◌==◌, slice_index}
+use Rattle.std.specs.Prelude.{◌≡◌, ℕ, zero, suc, ◌+◌, ◌<◌, List, length, ◌==◌, slice_index, Result, Ok, Err}
 use Rattle.basis.specs.Choose.{choose}
 use Rattle.basis.specs.Bytes.{overwrite}
 use Rattle.plan.specs.Plan.{Demand}
 use Rattle.run.specs.declared.State.{State}
-use Rattle.run.specs.declared.Closed.{Closed}
-use Rattle.run.specs.declared.Closed.TheVariants.{Accepted, Refused}
+use Rattle.run.specs.declared.Refusal.{Refusal}
 use Rattle.run.specs.declared.Next.{Next}
 use Rattle.run.specs.State.{current_of, job_of, offset}
 use Rattle.run.specs.Who.{running, who_of, runner_answer}
@@ -52,9 +51,9 @@ unfoldable pub log_in : List ℕ → Demand → Course → List ℕ
 log_in table need c = next_log (refusal_in table need c) c.log (log_after c.state (running c.state table) (report_in table need c.state) c.log)
 
 -- A refused step ends no job.
-unfoldable pub ends_by : Closed → List ℕ → List ℕ → List ℕ
-ends_by Accepted new old = new
-ends_by (Refused number) new old = old
+unfoldable pub ends_by : Result (Unit {0}) Refusal → List ℕ → List ℕ → List ℕ
+ends_by (Ok _) new old = new
+ends_by (Err r) new old = old
 
 unfoldable pub closed : List ℕ → Demand → Course → Course
 closed table need c =

@@ -5,7 +5,7 @@ pub mod told; // what disagrees
 pub mod compared; // answers of the library in the file's numbers
 
 // An answer in the file's numbers. Refusal 0 is acceptance; reached and period are refusal 6's alone.
-#[derive(Clone, Copy)]
+#[derive(Clone, Copy, Default, PartialEq, Eq)]
 pub struct Answer {
     pub refusal: u32,
     pub task: usize,

@@ -6,20 +6,13 @@ ghost use Rattle.checksum.specs.Checksum.{mix, over_word, over_bytes, over_tasks
 
 use run::{Mode, State};
 
+// The sum of no bytes.
+const START: u32 = 2166136261;
+
 fn with_byte(h: u32, byte: u8) -> u32
     ensures { result ≡ mix h byte }
 {
-    let mixed = h ^ (byte as u32);
-    (mixed as u64 * 16777619 % 4294967296) as u32
-}
-
-fn with_word(h: u32, w: u32) -> u32
-    ensures { result ≡ over_word h w }
-{
-    let a = with_byte(h, (w % 256) as u8);
-    let b = with_byte(a, (w / 256 % 256) as u8);
-    let c = with_byte(b, (w / 65536 % 256) as u8);
-    with_byte(c, (w / 16777216) as u8)
+    (h ^ u32::from(byte)).wrapping_mul(16777619)
 }
 
 // Goes on from a checksum over more bytes.
@@ -27,10 +20,8 @@ pub fn with_bytes(h: u32, bytes: &[u8]) -> u32
     ensures { result ≡ over_bytes h bytes.now (length bytes.now) }
 {
     let mut sum = h;
-    let mut i = 0;
-    while i < bytes.len() {
-        sum = with_byte(sum, bytes[i]);
-        i += 1;
+    for byte in bytes {
+        sum = with_byte(sum, *byte);
     }
     sum
 }
@@ -38,39 +29,37 @@ pub fn with_bytes(h: u32, bytes: &[u8]) -> u32
 pub fn of_bytes(bytes: &[u8]) -> u32
     ensures { result ≡ of_bytes bytes.now }
 {
-    with_bytes(2166136261, bytes)
+    with_bytes(START, bytes)
 }
 
-fn with_tasks<'a>(
-    h: u32,
-    periods: &'a [u32; 16],
-    deadlines: &'a [u32; 16],
-    runtimes: &'a [u32; 16],
-) -> u32
+fn with_word(h: u32, w: u32) -> u32
+    ensures { result ≡ over_word h w }
+{
+    with_bytes(h, &w.to_le_bytes())
+}
+
+fn with_tasks(h: u32, periods: &[u32; 16], deadlines: &[u32; 16], runtimes: &[u32; 16]) -> u32
     ensures { result ≡ over_tasks h periods.now deadlines.now runtimes.now 16 }
 {
     let mut sum = h;
-    let mut i = 0;
-    while i < 16 {
+    for i in 0..16 {
         let due = with_word(with_word(sum, periods[i]), deadlines[i]);
         sum = with_word(due, runtimes[i]);
-        i += 1;
     }
     sum
 }
 
-fn with_jobs<'a>(h: u32, used: &'a [u32; 16], ended: &'a [bool; 16]) -> u32
+fn with_jobs(h: u32, used: &[u32; 16], ended: &[bool; 16]) -> u32
     ensures { result ≡ over_jobs h used.now ended.now 16 }
 {
     let mut sum = h;
-    let mut i = 0;
-    while i < 16 {
-        sum = with_byte(with_word(sum, used[i]), ended[i] as u8);
-        i += 1;
+    for i in 0..16 {
+        sum = with_byte(with_word(sum, used[i]), u8::from(ended[i]));
     }
     sum
 }
 
+// The case file's number of a mode; `From` would have to stand in run, which knows no such file.
 fn mode_byte(mode: Mode) -> u8
     ensures { result ≡ mode_byte mode }
 {
@@ -84,15 +73,12 @@ fn mode_byte(mode: Mode) -> u8
 pub fn of_state(state: State) -> u32
     ensures { result ≡ of_state state }
 {
-    let count = state.count as u64;
-    let low = with_word(2166136261, (count % 4294967296) as u32);
-    let high = with_word(low, (count / 4294967296) as u32);
-    let cycle = with_word(high, state.cycle);
+    let count = with_bytes(START, &state.count.to_le_bytes());
+    let cycle = with_word(count, state.cycle);
     let position = with_word(cycle, state.position);
     let clock = with_word(position, state.clock);
-    let mode = state.mode;
     let tasks = with_tasks(
-        with_byte(clock, mode_byte(mode)),
+        with_byte(clock, mode_byte(state.mode)),
         &state.periods,
         &state.deadlines,
         &state.runtimes,

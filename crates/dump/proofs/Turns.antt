@@ -1,5 +1,5 @@
 -- One slice more: its change counted, and put.
-use mathlib.Core.Path.{◌≡◌, refl, ap}
+use mathlib.Core.Path.{◌≡◌, refl, ap, ◌∙◌}
 use mathlib.Core.List.{List, [], ◌++◌}
 use mathlib.Core.Logic.{⊎_elim}
 use Prim.Native.Nat.{ℕ, zero, suc, ◌+◌, ◌≤◌, ◌<◌}
@@ -7,7 +7,10 @@ use native.Mathlib.Omega.{arith}
 use native.Mathlib.Numerals.{add-one}
 use Rattle.basis.specs.Bytes.{at}
 use borrow.Author.Tests.{eq-eqb, ne_eqb}
-use Rattle.basis.specs.Choose.{choose_yes, choose_no, eq_or_ne}
+use mathlib.Core.Bool.{Bool, true, false, not}
+use lib.Dec.{eqb}
+use mir.Val.{bool_byte}
+use Rattle.basis.specs.Choose.{choose, choose_yes, choose_no, eq_or_ne}
 use Rattle.printing.specs.Shapes.{Put}
 use Rattle.printing.proofs.Chain.{chain}
 use Rattle.vcd.specs.Form.{time_line, value_line}
@@ -56,3 +59,12 @@ module _ (t before entry : ℕ) where
   pub a_change : (entry ≡ before → ⊥) → change_of t before entry ≡ time_line t ++ value_line entry
   unfolding change_of
   a_change ne = choose_no _ _ _ (ne_eqb entry before ne)
+
+as_number : (b : Bool) → bool_byte (not b) ≡ choose b 0 1
+unfolding choose
+as_number true = refl
+as_number false = refl
+
+pub one_change : (before entry : ℕ) {one : ℕ} → one ≡ bool_byte (not (eqb entry before)) → one ≡ change_count before entry
+unfolding change_count
+one_change before entry e = e ∙ as_number (eqb entry before)

@@ -1,8 +1,10 @@
 -- What the run gives each job, counted and laid down job by job, task by task.
+use Rattle.std.specs.Prelude.{drop, slice_range}
+use Rattle.std.proofs.lemmas.List.{length-take, length-drop, get_or-take, get_or-drop}
 use mathlib.Core.Path.{◌≡◌, refl, sym, ap, ◌∙◌}
 use mathlib.Core.List.{List}
 use mathlib.Core.Logic.{inl, inr, ⊎_elim}
-use Prim.Native.Nat.{ℕ, suc, ◌+◌, ◌*◌, ◌/◌, ◌≤◌, ◌<◌}
+use Prim.Native.Nat.{ℕ, suc, ◌+◌, ◌-◌, ◌*◌, ◌/◌, ◌≤◌, ◌<◌}
 use native.Mathlib.Omega.{arith}
 use native.Mathlib.Numerals.{add-one}
 use native.Mathlib.Nat.{mul-le-mul_right, div-mul-le_self}
@@ -10,7 +12,7 @@ use lib.ListN.{length, set, length-set}
 use lib.Seq.{get_or-set_same, get_or-set_other}
 use Rattle.basis.specs.Bytes.{at}
 use Rattle.basis.specs.Choose.{below_suc}
-use Rattle.basis.specs.Sum.{sum, sum_grows}
+use Rattle.basis.specs.Sum.{sum, sum_ext, sum_grows}
 use Rattle.plan.specs.Plan.{Demand, release, gets}
 use Rattle.plan.proofs.Work.{gets_one, gets_none}
 use Rattle.needs.specs.Explained.{given_in}
@@ -30,11 +32,18 @@ module _ (f : ℕ → ℕ) (i n count count' : ℕ) (so_far : count ≡ sum (λ 
   unfolding sum
   counted_none ne same = rw add-one (omega (arith, gets_none (f n) i ne))
 
+-- So many slices, from one place on, are the run's.
+pub window_is : (run : List ℕ) (start period i : ℕ) → start + period ≤ length run
+    → sum (λ n. gets (at (slice_range run start (start + period)) n) i) (length (slice_range run start (start + period))) ≡ sum (λ n. gets (at run (start + n)) i) period
+window_is run start period i fits =
+    let some : start + period - start ≡ period = omega arith in
+    let long : length (slice_range run start (start + period)) ≡ period = omega (arith, length-take (start + period - start) (drop start run), length-drop start run) in
+    rw long
+    (sum_ext _ _ period
+    (λ n l. ap (λ (x : ℕ). gets x i) (get_or-take (start + period - start) (drop start run) n 0 (omega (arith, some)) ∙ get_or-drop start run n 0)))
+
 -- ---- job by job
 module _ (f : ℕ → ℕ) (from : ℕ) (old : List ℕ) where
-  pub laid_none : Laid f from 0 old old
-  laid_none = record { long = refl; each = λ k l. absurd (omega arith); elsewhere = λ x w. refl }
-
   pub laid_more : (n : ℕ) (new : List ℕ) (v : ℕ) → Laid f from n old new → from + n < length old → v ≡ f n → Laid f from (n + 1) old (set new (from + n) v)
   laid_more n new v L room e = record {
     long = length-set new (from + n) v ∙ L.long;
@@ -49,11 +58,8 @@ module _ (f : ℕ → ℕ) (from : ℕ) (old : List ℕ) where
   }
 
 -- The slices of a job lie within those of all its task's jobs.
-pub window_in : (period jobs k start room : ℕ) → jobs * period ≤ room → start ≡ k * period → k < jobs → start + period ≤ room
-window_in period jobs k start room fits e l = omega (arith, mul-le-mul_right period l)
-
-pub start_next : (period k start : ℕ) → start ≡ k * period → start + period ≡ (k + 1) * period
-start_next period k start e = rw add-one (omega arith)
+pub window_in : (period jobs k room : ℕ) → jobs * period ≤ room → k < jobs → k * period + period ≤ room
+window_in period jobs k room fits l = omega (arith, mul-le-mul_right period l)
 
 -- ---- task by task
 -- The needs of the first i tasks are given, and nothing else is written.

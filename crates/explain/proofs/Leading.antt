@@ -15,6 +15,7 @@ use Rattle.tasks.specs.List.{plan_of}
 use Rattle.tasks.specs.Bounds.{cycle_of}
 use Rattle.tasks.specs.Kept.{KeepsBounds}
 use Rattle.tasks.proofs.Kept.{plan_sound, period_divides_cycle}
+use Rattle.ranking.specs.declared.Ranked.{Ranked}
 use Rattle.ranking.specs.Ranks.{Ranks, Shows, ranked_shows}
 use Rattle.explain.specs.Shapes.{SeenRun, Leads, CanGoBack, Back, waits_at, CanWait}
 use Rattle.explain.proofs.Agreeing.{Agrees, given_fits, agreeing_explains, explained_agrees}
@@ -68,9 +69,22 @@ module _ (l : TaskList) (cycle : ℕ) (run : List ℕ) (seen : SeenRun l cycle r
         no = λ e. absurd (true≢false e);
       }
 
-  module _ (order periods dues runtimes : List ℕ) (R : Ranks l none none none none order periods dues runtimes) where
+  module _ (fresh ranked : Ranked) (zeros : fresh ≡ record { order = none; periods = none; dues = none; runtimes = none })
+      (ranks : Ranks l fresh.order fresh.periods fresh.dues fresh.runtimes ranked.order ranked.periods ranked.dues ranked.runtimes) where
+    abbrev order : List ℕ
+    order = ranked.order
+
+    abbrev periods : List ℕ
+    periods = ranked.periods
+
+    abbrev dues : List ℕ
+    dues = ranked.dues
+
+    abbrev runtimes : List ℕ
+    runtimes = ranked.runtimes
+
     shows : Shows (plan_of l) order periods dues runtimes
-    shows = ranked_shows l K.few order periods dues runtimes R
+    shows = ranked_shows l K.few order periods dues runtimes (rw zeros at ranks)
 
     pub agrees_first : AgreesFrom l run order cycle (replicate 16 cycle) none
     agrees_first = record {

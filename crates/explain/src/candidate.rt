@@ -13,13 +13,8 @@ ghost use Rattle.tasks.specs.Bounds.{jobs_of};
 ghost use Rattle.explain.specs.Seen.{NeedsIn};
 ghost use Rattle.explain.specs.Shapes.{SeenRun, Leads, start_then, got_then, fits_at, waits_for, waits_at, CanGoBack, Back, CanWait, Laid};
 
+use ranking::Ranked;
 use tasks::TaskList;
-
-pub(crate) fn wide(x: u8) -> usize
-    ensures { result ≡ x }
-{
-    x as usize
-}
 
 // The release of a task's job of slice t, from that of the next slice's.
 fn start_then(start: u32, period: u32, t: u32) -> u32
@@ -44,14 +39,12 @@ fn got_before(got: u32, start: u32, t: u32) -> u32
 }
 
 // 1 if the entry is the task's.
+#[tactic(auto, unfolding(plan::specs::Plan::gets, basis::specs::Choose::choose))]
 fn gets_one(entry: usize, task: usize) -> u32
     requires { task < 16 }
     ensures { result ≡ gets entry task }
 {
-    if entry == task + 1 {
-        return 1;
-    }
-    0
+    u32::from(entry == task + 1)
 }
 
 // Whether a job got from 1 slice to its run-time, if it is released at slice t.
@@ -66,28 +59,24 @@ fn fits_at(start: u32, got: u32, runtime: u32, t: u32) -> bool
 
 // Goes back to slice t, which has this entry, and says whether all jobs released there fit.
 fn go_back(
-    order: &[usize; 16],
-    periods: &[u32; 16],
-    runtimes: &[u32; 16],
+    ranked: &Ranked,
     starts: &mut [u32; 16],
     got: &mut [u32; 16],
     count: usize,
     t: u32,
     entry: usize,
 ) -> bool
-    requires { CanGoBack order.now periods.now starts.old got.old count t }
-    ensures { Back order.now periods.now runtimes.now starts.old got.old count t entry starts.new got.new result }
+    requires { CanGoBack ranked.now.order ranked.now.periods starts.old got.old count t }
+    ensures { Back ranked.now.order ranked.now.periods ranked.now.runtimes starts.old got.old count t entry starts.new got.new result }
 {
     let mut fit = true;
-    let mut k = 0;
-    while k < count {
+    for k in 0..count {
         let last = starts[k];
-        let start = start_then(last, periods[k], t);
-        let gets = got_before(got[k], last, t) + gets_one(entry, order[k]);
+        let start = start_then(last, ranked.periods[k], t);
+        let gets = got_before(got[k], last, t) + gets_one(entry, ranked.order[k]);
         starts[k] = start;
         got[k] = gets;
-        fit = fit & fits_at(start, gets, runtimes[k], t);
-        k += 1;
+        fit &= fits_at(start, gets, ranked.runtimes[k], t);
     }
     fit
 }
@@ -104,24 +93,14 @@ fn waits_for(start: u32, due: u32, got: u32, t: u32) -> u32
 }
 
 // The entry that slice t must have: that of the first-ranking task that waits.
-fn next_entry(
-    order: &[usize; 16],
-    dues: &[u32; 16],
-    starts: &[u32; 16],
-    got: &[u32; 16],
-    count: usize,
-    t: u32,
-) -> usize
-    requires { CanWait order.now dues.now starts.now count }
-    ensures { FirstIn order.now (waits_at dues.now starts.now got.now t) count result }
+fn next_entry(ranked: &Ranked, starts: &[u32; 16], got: &[u32; 16], count: usize, t: u32) -> usize
+    requires { CanWait ranked.now.order ranked.now.dues starts.now count }
+    ensures { FirstIn ranked.now.order (waits_at ranked.now.dues starts.now got.now t) count result }
 {
-    let mut k = 0;
-    while k < count {
-        if waits_for(starts[k], dues[k], got[k], t) != 0 {
-            let task = order[k];
-            return task + 1;
+    for k in 0..count {
+        if waits_for(starts[k], ranked.dues[k], got[k], t) != 0 {
+            return ranked.order[k] + 1;
         }
-        k += 1;
     }
     0
 }
@@ -131,30 +110,16 @@ pub(crate) fn leads(list: TaskList, run: &[u8], cycle: u32) -> bool
     requires { SeenRun list cycle run.now }
     ensures { Leads list run.now result }
 {
-    let mut order = [0usize; 16];
-    let mut periods = [0u32; 16];
-    let mut dues = [0u32; 16];
-    let mut runtimes = [0u32; 16];
-    ranking::by_rank(list, &mut order, &mut periods, &mut dues, &mut runtimes);
+    let mut ranked = Ranked::unranked();
+    ranking::by_rank(list, &mut ranked);
     let mut starts = [cycle; 16];
     let mut got = [0u32; 16];
-    let mut t = cycle;
-    while 0 < t {
-        t -= 1;
-        let entry = wide(run[t as usize]);
-        if !go_back(
-            &order,
-            &periods,
-            &runtimes,
-            &mut starts,
-            &mut got,
-            list.count,
-            t,
-            entry,
-        ) {
+    for t in (0..cycle).rev() {
+        let entry = usize::from(run[t as usize]);
+        if !go_back(&ranked, &mut starts, &mut got, list.count, t, entry) {
             return false;
         }
-        if next_entry(&order, &dues, &starts, &got, list.count, t) != entry {
+        if next_entry(&ranked, &starts, &got, list.count, t) != entry {
             return false;
         }
     }
@@ -162,17 +127,15 @@ pub(crate) fn leads(list: TaskList, run: &[u8], cycle: u32) -> bool
 }
 
 // How many of some slices have this entry.
-fn count_in(run: &[u8], from: usize, slices: usize, entry: u8) -> u32
-    requires { (slices ≤ 4096) × (from + slices ≤ length run.now) }
-    ensures { (i : ℕ) → entry ≡ suc i → result ≡ sum (λ n. gets (at run.now (from + n)) i) slices }
+fn count_in(run: &[u8], entry: u8) -> u32
+    requires { length run.now ≤ 4096 }
+    ensures { (i : ℕ) → entry ≡ suc i → result ≡ sum (λ n. gets (at run.now n) i) (length run.now) }
 {
     let mut count = 0;
-    let mut n = 0;
-    while n < slices {
-        if run[from + n] == entry {
+    for &other in run {
+        if other == entry {
             count += 1;
         }
-        n += 1;
     }
     count
 }
@@ -182,12 +145,9 @@ fn give_task(run: &[u8], period: usize, jobs: usize, entry: u8, needs: &mut [u32
     requires { (period ≤ 4096) × (jobs * period ≤ length run.now) × (from + jobs ≤ length needs.old) }
     ensures { (i : ℕ) → entry ≡ suc i → Laid (λ k. sum (λ n. gets (at run.now (k * period + n)) i) period) from jobs needs.old needs.new }
 {
-    let mut start = 0;
-    let mut k = 0;
-    while k < jobs {
-        needs[from + k] = count_in(run, start, period, entry);
-        start += period;
-        k += 1;
+    for k in 0..jobs {
+        let start = k * period;
+        needs[from + k] = count_in(&run[start..start + period], entry);
     }
 }
 
@@ -196,15 +156,11 @@ pub(crate) fn give(list: TaskList, run: &[u8], cycle: u32, needs: &mut [u32])
     requires { SeenRun list cycle run.now × (jobs_of list ≤ length needs.old) }
     ensures { NeedsIn list (given_in (plan_of list) run.now) needs.old needs.new }
 {
-    let tasks = list.tasks;
     let mut from = 0;
-    let mut i = 0;
-    while i < list.count {
-        let task = tasks[i];
-        let period = task.period;
+    for i in 0..list.count {
+        let period = list.tasks[i].period;
         let jobs = (cycle / period) as usize;
         give_task(run, period as usize, jobs, (i + 1) as u8, needs, from);
         from += jobs;
-        i += 1;
     }
 }

@@ -1,18 +1,18 @@
 -- The jobs of each task, counted in an array of sixteen, and the records of their needs.
-use mathlib.Core.Path.{◌≡◌, refl, sym, ap, ap₂, ◌∙◌}
-use mathlib.Core.List.{List, ◌++◌, append-nil}
-use mathlib.Core.Logic.{⊎_elim}
-use Prim.Native.Nat.{ℕ, zero, suc, ◌+◌, ◌/◌, ◌≤◌, ◌<◌}
-use native.Mathlib.Omega.{arith}
-use lib.ListN.{get_or, set, replicate, length-replicate}
+use Rattle.std.specs.Prelude.{◌≡◌, refl, List, ◌++◌, ℕ, zero, suc, ◌+◌, ◌/◌, ◌≤◌, ◌<◌, get_or, set, replicate, Result, Ok}
+use Rattle.std.proofs.Math.Path.{ap, ap₂}
+use Rattle.std.proofs.Math.Logic.{⊎_elim}
+use Rattle.std.proofs.Common.{◌∙◌, arith}
+use Rattle.std.proofs.lemmas.List.{length-replicate}
+use mathlib.Core.List.{append-nil}
 use Rattle.basis.specs.Bytes.{overwrite, overwrite_next, overwrite_at, overwrite_kept, zeros}
 use Rattle.basis.specs.Choose.{eq_or_ne}
 use Rattle.basis.specs.Sum.{sum, sum_ext}
+use Rattle.tasks.specs.declared.InBounds.{InBounds}
 use Rattle.tasks.specs.declared.TaskList.{TaskList}
+use Rattle.tasks.specs.declared.refusals.Refusal.{Refusal}
 use Rattle.tasks.specs.List.{task_at}
 use Rattle.tasks.specs.Bounds.{cycle_of, job_sum, jobs_of, bounds_of}
-use Rattle.tasks.specs.declared.Bounds.{Bounds}
-use Rattle.tasks.specs.declared.Bounds.TheVariants.{Kept, Broken}
 use Rattle.tasks.specs.Kept.{KeepsBounds}
 use Rattle.tasks.proofs.Kept.{bounds_kept}
 use Rattle.printing.specs.Text.{needs_header, job_records, need_records, needs_text}
@@ -20,11 +20,8 @@ use Rattle.printing.specs.Written.{Written}
 use Rattle.output.specs.Explain.{jobs_in}
 
 -- A list that keeps its bounds has a cycle.
-pub never_broken : {A : Type 0} {l : TaskList} {b : Bounds} (number task reached period : ℕ) → KeepsBounds l 65536 → b ≡ bounds_of l 65536 → b ≡ Broken number task reached period → A
-never_broken {l = l} number task reached period K e q =
-    let both : Kept (cycle_of l) (jobs_of l) ≡ Broken number task reached period = sym (bounds_kept l 65536 K) ∙ sym e ∙ q in
-    let z : ◌≡◌ {A = ℕ} 0 1 = cc in
-    absurd (omega arith)
+pub never_broken : {A : Type 0} {l : TaskList} {b : Result InBounds Refusal} → KeepsBounds l 65536 → b ≡ bounds_of l 65536 → ((k : InBounds) → b ≡ Ok k → ⊥) → A
+never_broken {l = l} K e none = absurd (none _ (e ∙ bounds_kept l 65536 K))
 
 -- One task more.
 pub counted_next : (l : TaskList) (cycle : ℕ) (old jobs : List ℕ) (i : ℕ) → cycle ≡ cycle_of l → jobs ≡ overwrite (jobs_in l) i old → set jobs i (cycle / (task_at l.tasks i).period) ≡ overwrite (jobs_in l) (i + 1) old

@@ -11,12 +11,10 @@ ghost use Rattle.printing.specs.Written.{Written};
 ghost use Rattle.output.specs.Explain.{jobs_in, ExplainAnswers};
 
 use anyhow::{Context, Result, bail};
-use explain::Viewed;
-use records::Form;
 use std::env::{Env, FillError};
 use std::fs;
 use std::fs::Files;
-use tasks::{Bounds, TaskList};
+use tasks::TaskList;
 
 // How many jobs each task has in the cycle.
 fn count_jobs(list: TaskList, cycle: u32, jobs: &mut [u32; 16])
@@ -24,12 +22,8 @@ fn count_jobs(list: TaskList, cycle: u32, jobs: &mut [u32; 16])
     requires cycle_value { cycle ≡ cycle_of list }
     ensures { jobs.new ≡ overwrite (jobs_in list) list.count jobs.old }
 {
-    let tasks = list.tasks;
-    let mut i = 0;
-    while i < list.count {
-        let task = tasks[i];
+    for (i, task) in list.tasks[..list.count].iter().enumerate() {
         jobs[i] = cycle / task.period;
-        i += 1;
     }
 }
 
@@ -39,11 +33,11 @@ fn write_jobs(list: TaskList, needs: &[u32], out: &mut [u8]) -> usize
     ensures written { Written (needs_text needs.now (jobs_in list) list.count) out.old out.new result }
     ensures upper_bound { jobs_of list ≤ 4096 → result ≤ 81935 }
 {
-    let Bounds::Kept { cycle, .. } = tasks::check_bounds(list, 65536) else {
+    let Ok(bounds) = tasks::check_bounds(list, 65536) else {
         return 0;
     };
     let mut jobs = [0u32; 16];
-    count_jobs(list, cycle, &mut jobs);
+    count_jobs(list, bounds.cycle, &mut jobs);
     printing::write_needs(&jobs, needs, out)
 }
 
@@ -55,22 +49,17 @@ fn answer(input: &[u8], file: &[u8], out: &mut [u8]) -> usize
     if 4096 < input.len() {
         return printing::write_refusal(16, 0, 0, out);
     }
-    let parsed = records::read_list(input);
-    let form = parsed.form;
-    if let Form::Bad(line) = form {
-        return printing::write_refusal(15, line, 0, out);
-    }
-    let list = parsed.list;
+    let list = match records::read_list(input) {
+        Ok(list) => list,
+        Err(bad) => return printing::write_refusal(15, bad.line, 0, out),
+    };
     let mut needs = [0u32; 4096];
     match lent_viewer::explain_list(list, 65536, file, &mut needs) {
-        Viewed::Refused {
-            number,
-            task,
-            margin,
-            ..
-        } => printing::write_refusal(number, task, margin, out),
-        Viewed::No => printing::write_no(out),
-        Viewed::Given(_) => write_jobs(list, &needs, out),
+        Ok(Some(_)) => write_jobs(list, &needs, out),
+        Ok(None) => printing::write_no(out),
+        Err(refusal) => {
+            printing::write_refusal(refusal.number(), refusal.task(), refusal.margin(), out)
+        }
     }
 }
 

@@ -1,5 +1,5 @@
 -- Places beyond the task count do not matter: two lists of one count whose tasks are the same give the same bounds, verdict, quick answer, table, filling runs and state of a start.
-use Rattle.std.specs.Prelude.{◌≡◌, false, ◌&&◌, ◌||◌, pos}
+use Rattle.std.specs.Prelude.{◌≡◌, false, ◌&&◌, ◌||◌, pos, Result, Ok, Err}
 use Rattle.std.proofs.Math.Path.{refl, sym, ap}
 use Rattle.std.proofs.Common.{◌∙◌, arith}
 use mathlib.Core.List.{List, [], ◌∷◌}
@@ -19,15 +19,15 @@ use Rattle.plan.proofs.Run.{had_first_lem, had_next}
 use Rattle.plan.specs.Points.{in_level, is_multiple, is_point, points_from, points, passes_among, fails_at_points, first_without}
 use Rattle.tasks.specs.declared.Task.{Task}
 use Rattle.tasks.specs.declared.TaskList.{TaskList}
-use Rattle.tasks.specs.declared.Bounds.{Bounds}
-use Rattle.tasks.specs.declared.Bounds.TheVariants.{Kept, Broken}
+use Rattle.tasks.specs.declared.InBounds.{InBounds}
+use Rattle.tasks.specs.declared.refusals.Refusal.{Refusal}
+use Rattle.tasks.specs.declared.refusals.Refusal.TheVariants as refusal
 use Rattle.tasks.specs.List.{task_at, plan_of}
 use Rattle.tasks.specs.Euclid.{lcm_of}
 use Rattle.tasks.specs.Bounds.{multiple, memory_sum, job_sum, cycle_of, jobs_of, of_count, of_numbers, of_task, of_memory, of_cycle, found, answer, bounds_of}
 use Rattle.tasks.proofs.Kept.{kept_tells}
 use Rattle.quick.specs.Quick.{tried, quick_from, quick_of}
 use Rattle.verdict.specs.declared.Late.{Late}
-use Rattle.verdict.specs.declared.Verdict.TheVariants.{Accepted, Refused}
 use Rattle.verdict.specs.Lateness.{received, missing, missed_at, late_by, earlier, lateness}
 use Rattle.verdict.specs.Deadlines.{missed_lacks}
 use Rattle.verdict.specs.Tightest.{tightest_law, tightest_only}
@@ -209,22 +209,22 @@ module _ (ts us : List Task) (n : ℕ) (same : (i : ℕ) → i < n → task_at t
   judged_same p cycle jobs late =
       let best : tightest P n ≡ tightest Q n = tightest_same p in
       let least-margin : margin P (tightest P n) ≡ margin Q (tightest Q n) = margin_same (tightest P n) (tightest_law P n p (omega arith)).is_below ∙ ap (margin Q) best in
-      λ j. choose (eqb late.task 0) (Accepted cycle jobs (suc (best j)) (pos (least-margin j))) (Refused 7 late.task (sub_ℕ 0 late.short) 0 0)
+      λ j. choose (eqb late.task 0) (Ok (record { cycle = cycle; jobs = jobs; task = suc (best j); margin = pos (least-margin j) })) (Err (refusal.Late late.task (sub_ℕ 0 late.short)))
 
-  from_same : (supply : ℕ) (b : Bounds) → bounds_of l supply ≡ b → verdict_from l b ≡ verdict_from m b
+  from_same : (supply : ℕ) (b : Result InBounds Refusal) → bounds_of l supply ≡ b → verdict_from l b ≡ verdict_from m b
   unfolding verdict_from
-  from_same supply (Broken number task reached period) e = refl
-  from_same supply (Kept cycle jobs) e =
-      judged_same (kept_tells l supply cycle jobs e).keeps.some cycle jobs (lateness P cycle) ∙ ap (judged Q cycle jobs) (lateness_same cycle)
+  from_same supply (Err r) e = refl
+  from_same supply (Ok k) e =
+      judged_same (kept_tells l supply k e).keeps.some k.cycle k.jobs (lateness P k.cycle) ∙ ap (judged Q k.cycle k.jobs) (lateness_same k.cycle)
 
   pub verdict_same : (supply : ℕ) → verdict_of l supply ≡ verdict_of m supply
   unfolding verdict_of
   verdict_same supply = from_same supply (bounds_of l supply) refl ∙ ap (verdict_from m) (bounds_same supply)
 
-  quick_from_same : (b : Bounds) → quick_from l b ≡ quick_from m b
+  quick_from_same : (b : Result InBounds Refusal) → quick_from l b ≡ quick_from m b
   unfolding quick_from
-  quick_from_same (Broken number task reached period) = refl
-  quick_from_same (Kept cycle jobs) = ap tried without_same
+  quick_from_same (Err r) = refl
+  quick_from_same (Ok k) = ap tried without_same
 
   pub quick_same : (supply : ℕ) → quick_of l supply ≡ quick_of m supply
   unfolding quick_of

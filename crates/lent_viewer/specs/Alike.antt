@@ -1,5 +1,5 @@
 -- Places beyond the task count do not matter to a viewer: what is written, read back or explained of one list is so of every list alike.
-use Rattle.std.specs.Prelude.{◌≡◌, List, ◌⊎◌, ℕ, ◌+◌, ◌/◌, ◌<◌}
+use Rattle.std.specs.Prelude.{◌≡◌, List, ◌⊎◌, ℕ, ◌+◌, ◌/◌, ◌<◌, Some, Ok, Err}
 use Rattle.std.proofs.Math.Path.{sym, ap}
 use Rattle.std.proofs.Common.{◌∙◌, subst, inl, inr, ⊎_elim, arith}
 use Rattle.basis.specs.Bytes.{at}
@@ -9,12 +9,8 @@ use Rattle.tasks.specs.declared.Task.{Task}
 use Rattle.tasks.specs.declared.TaskList.{TaskList}
 use Rattle.tasks.specs.List.{task_at, plan_of}
 use Rattle.tasks.specs.Bounds.{cycle_of, jobs_of}
-use Rattle.verdict.specs.declared.Verdict.{Verdict}
-use Rattle.verdict.specs.declared.Verdict.TheVariants.{Accepted, Refused}
-use Rattle.verdict.specs.Verdict.{verdict_of}
-use Rattle.explain.specs.declared.Viewed.{Viewed}
-use Rattle.explain.specs.declared.Viewed.TheVariants.{Given}
-use Rattle.explain.specs.Seen.{AfterList, NeedsIn, Yes, NoNeeds, Explained}
+use Rattle.verdict.specs.Verdict.{Verdict, verdict_of}
+use Rattle.explain.specs.Seen.{Viewed, AfterList, NeedsIn, Yes, NoNeeds, Explained}
 use Rattle.viewer.specs.Viewer.{Writes, NoForm, Of, ReadsBack, ExplainsFile}
 use Rattle.lent.specs.Beyond.{verdict_same, cycle_same, jobs_same, filling_same}
 use Rattle.lent.specs.Lent.{Alike}
@@ -22,8 +18,8 @@ use Rattle.lent.specs.Lent.{Alike}
 -- ---- what is said after the list's own checks, or of a file's run
 after_then : (F G : ℕ → ℕ → Type 0) (old new : List ℕ) (r : Viewed) → ((cycle jobs : ℕ) → F cycle jobs → G cycle jobs) → (v : Verdict) → AfterList v F old new r → AfterList v G old new r
 unfolding AfterList
-after_then F G old new r f (Accepted cycle jobs task margin) h = f cycle jobs h
-after_then F G old new r f (Refused number task margin reached period) h = h
+after_then F G old new r f (Ok a) h = f a.cycle a.jobs h
+after_then F G old new r f (Err e) h = h
 
 of_then : (F G : List ℕ → Type 0) (file old new : List ℕ) (r : Viewed) → ((run : List ℕ) → F run → G run) → NoForm file old new r ⊎ Of file F → NoForm file old new r ⊎ Of file G
 of_then F G file old new r f h = ⊎_elim inl (λ (o : Of file F). inr (record { run = o.run; of_run = o.of_run; said = f o.run o.said })) h
@@ -67,7 +63,7 @@ module _ (ts us : List Task) (n : ℕ) (same : Same ts us n) where
         explains = explains_same ts us n same run h.need h.explains;
         just = λ i k li lk. omega (arith, h.just i k li (omega (arith, each_same ts us n same i li)), ap (λ (t : Task). t.runtime) (same i li));
         needs = needs_in_same h.need old new h.needs;
-        answer = h.answer ∙ ap Given (jobs_same ts us n same n (omega arith));
+        answer = h.answer ∙ ap (λ (x : ℕ). Ok (Some x)) (jobs_same ts us n same n (omega arith));
       }
 
   -- Needs of the other list would be needs of this one.

@@ -10,7 +10,7 @@ use Rattle.records.proofs.Reading.{reads_only}
 use Rattle.records.specs.Shapes.{parsed_of}
 use Rattle.printing.specs.Text.{table_text}
 use Rattle.output.specs.Output.{record_of, entries, judged_as, Prints, too_long, bad_line, refused, accepted, note_of, Notes, of_no_list, of_bad_line, of_list as of-judged}
-use Rattle.explain.specs.declared.Viewed.{Viewed}
+use Rattle.explain.specs.Seen.{Viewed}
 use Rattle.viewer.specs.Viewer.{ExplainsFile}
 use Rattle.output.specs.Listed.{ListPrints, too_long as list-too-long, bad_line as list-bad-line, of_list as of-listed}
 use Rattle.output.specs.Vcd.{VcdOf, VcdPrints, refused as vcd-refused, accepted as vcd-accepted}

@@ -1,8 +1,8 @@
 -- What a program prints that reads a task list and says more of it than the verdict: 16 comes first, then 15 for the first bad line, then what it says of the list.
-use Rattle.std.specs.Prelude.{◌≡◌, List, ℕ, ◌≤◌, ◌<◌, pos, length}
+use Rattle.std.specs.Prelude.{◌≡◌, List, ℕ, ◌≤◌, ◌<◌, pos, length, Result, Ok, Err}
 use Rattle.basis.specs.Answer.{refusal}
-use Rattle.records.specs.declared.Form.TheVariants.{Good, Bad}
-use Rattle.records.specs.declared.Parsed.{Parsed}
+use Rattle.tasks.specs.declared.TaskList.{TaskList}
+use Rattle.records.specs.declared.BadLine.{BadLine}
 use Rattle.records.specs.Grammar.{Read, form_answer, read_of, Reads}
 use Rattle.records.proofs.Reading.{good_is_0, bad_is_15}
 use Rattle.printing.specs.Text.{refusal_text}
@@ -26,10 +26,10 @@ module _ {Of : Read → List ℕ → Type 0} {input old new : List ℕ} {r : ℕ
   unfolding record_of refusal
   answers_too_long l W = record { text = _; prints = too_long l; written = W }
 
-  module _ (p : Parsed) (l : length input ≤ 4096) (R : Reads input (read_of p)) where
-    pub answers_bad_line : (line : ℕ) → p.form ≡ Bad line → Written (refusal_text 15 line (pos 0)) old new r → ListAnswers Of input old new r
+  module _ (p : Result TaskList BadLine) (l : length input ≤ 4096) (R : Reads input (read_of p)) where
+    pub answers_bad_line : (bad : BadLine) → p ≡ Err bad → Written (refusal_text 15 bad.line (pos 0)) old new r → ListAnswers Of input old new r
     unfolding record_of read_of form_answer refusal
-    answers_bad_line line b W = record { text = _; prints = bad_line l R (bad_is_15 p line b); written = rw b W }
+    answers_bad_line bad b W = record { text = _; prints = bad_line l R (bad_is_15 p bad b); written = rw b W }
 
-    pub answers_list : p.form ≡ Good → {text : List ℕ} → Of (read_of p) text → Written text old new r → ListAnswers Of input old new r
-    answers_list good of W = record { text = _; prints = of_list l R (good_is_0 p good) of; written = W }
+    pub answers_list : (list : TaskList) → p ≡ Ok list → {text : List ℕ} → Of (read_of p) text → Written text old new r → ListAnswers Of input old new r
+    answers_list list good of W = record { text = _; prints = of_list l R (good_is_0 p list good) of; written = W }

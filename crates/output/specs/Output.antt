@@ -1,11 +1,13 @@
 -- What the program prints for an input, and what it says beside it: 16 comes first, then 15 for the first bad line, then the list's checks; else the table.
-use Rattle.std.specs.Prelude.{◌≡◌, List, [], ℕ, ◌≤◌, ◌<◌, eqb, length, replicate}
+use Rattle.std.specs.Prelude.{◌≡◌, List, [], ℕ, ◌≤◌, ◌<◌, ℤ, eqb, length, replicate}
 use Rattle.basis.specs.Choose.{choose}
 use Rattle.basis.specs.Bytes.{overwrite}
 use Rattle.basis.specs.Answer.{Answer, refusal}
 use Rattle.plan.specs.Plan.{table}
 use Rattle.tasks.specs.declared.TaskList.{TaskList}
+use Rattle.tasks.specs.declared.refusals.Refusal.{Refusal}
 use Rattle.tasks.specs.List.{plan_of}
+use Rattle.tasks.specs.Refusal.{refusal_answer}
 use Rattle.verdict.specs.Verdict.{verdict_of, verdict_answer}
 use Rattle.records.specs.Grammar.{Read, Reads}
 use Rattle.printing.specs.Text.{refusal_text, clash_text, table_text}
@@ -48,3 +50,9 @@ pub record Answers (input old new : List ℕ) (r : ℕ) : Type 0 where
   pub text : List ℕ
   pub prints : Prints input text
   pub written : Written text old new r
+
+-- The record of a refusal, as a program writes it.
+pub writes_refusal : (e : Refusal) {number task : ℕ} {margin : ℤ} {old new : List ℕ} {r : ℕ} → number ≡ (refusal_answer e).number → task ≡ (refusal_answer e).task → margin ≡ (refusal_answer e).margin
+    → Written (refusal_text number task margin) old new r → Written (record_of (refusal_answer e)) old new r
+unfolding record_of
+writes_refusal e n t m W = rw (← n, ← t, ← m) W

@@ -1,119 +1,117 @@
 -- What is printed at each way out of `answer`, as laws over plain values.
-use mathlib.Core.Path.{◌≡◌, refl, sym, ap, ap₂, subst, ◌∙◌}
-use mathlib.Core.List.{List, []}
-use Prim.Native.Nat.{ℕ, ◌≤◌, ◌<◌}
-use native.Mathlib.Omega.{arith}
-use lib.IntN.{ℤ, pos}
-use lib.ListN.{length, get_or, take}
-use borrow.Author.Tests.{eq-eqb, ne_eqb}
-use Rattle.basis.specs.Choose.{choose, choose_yes, choose_no}
-use Rattle.basis.specs.Bytes.{overwrite, overwritten_length}
-use Rattle.basis.specs.Answer.{refusal}
+use Rattle.std.specs.Prelude.{◌≡◌, refl, List, [], ℕ, ◌≤◌, ◌<◌, ℤ, pos, length, take, Result, Ok, Err}
+use Rattle.std.proofs.Math.Path.{subst, sym, ap}
+use Rattle.std.proofs.Common.{◌∙◌, arith}
+use Rattle.basis.specs.Choose.{choose}
+use Rattle.basis.specs.Bytes.{overwrite}
+use Rattle.basis.specs.Answer.{refusal, clash}
 use Rattle.tasks.specs.declared.TaskList.{TaskList}
-use Rattle.verdict.specs.declared.Verdict.{Verdict}
-use Rattle.verdict.specs.declared.Verdict.TheVariants.{Accepted, Refused}
-use Rattle.verdict.specs.Verdict.{verdict_of, verdict_answer}
-use Rattle.verdict.specs.Table.{Built}
+use Rattle.tasks.specs.declared.refusals.Refusal.{Refusal}
+use Rattle.tasks.specs.declared.refusals.Refusal.TheVariants.{NoTasks, TooManyTasks, PeriodOutside, RuntimeOutside, DeadlineOutside, MemoryExceeded, CycleTooLong, Late, Fails, ShortTable, ShortLog, OtherForm, OtherLength, EntryAbove, NoRoom}
+use Rattle.tasks.specs.Refusal.{refusal_answer}
+use Rattle.verdict.specs.declared.Accepted.{Accepted}
+use Rattle.verdict.specs.Verdict.{Verdict, verdict_of, verdict_answer}
 use Rattle.verdict.proofs.Told.{refused_not_0}
-use Rattle.records.specs.declared.Form.TheVariants.{Good, Bad}
-use Rattle.records.specs.declared.Parsed.{Parsed}
-use Rattle.records.specs.Grammar.{form_answer, read_of, Reads}
+use Rattle.verdict.specs.Table.{Built}
+use Rattle.records.specs.declared.BadLine.{BadLine}
+use Rattle.records.specs.Grammar.{form_answer, list_read, read_of, Reads}
 use Rattle.records.proofs.Reading.{good_is_0, bad_is_15}
 use Rattle.printing.specs.Text.{refusal_text, clash_text, table_text}
 use Rattle.printing.specs.Written.{Written}
-use Rattle.output.specs.Output.{record_of, entries, too_long, bad_line, refused, accepted, Answers, note_of, of_no_list, of_bad_line, of_list, Noted}
-use Rattle.output.specs.Building.{built_judged, built_within, built_entries}
+use Rattle.output.specs.Output.{record_of, too_long, bad_line, refused, accepted, Answers, note_of, of_no_list, of_bad_line, of_list, Noted}
+use Rattle.output.specs.Building.{built_judged, accepted_by_0, entries_read}
 
--- ---- the refusal record of an answer
-module _ {old new : List ℕ} {r : ℕ} (v : Verdict) (task : ℕ) (margin m : ℤ) (same : m ≡ margin) where
-  pub writes_refused : (number reached period : ℕ) → v ≡ Refused number task margin reached period → Written (refusal_text number task m) old new r → Written (record_of (verdict_answer v)) old new r
-  unfolding record_of verdict_answer
-  writes_refused number reached period q W = rw (q, ← same) W
-
-  pub writes_accepted : (cycle jobs : ℕ) → v ≡ Accepted cycle jobs task margin → Written (refusal_text 0 task m) old new r → Written (record_of (verdict_answer v)) old new r
-  unfolding record_of verdict_answer
-  writes_accepted cycle jobs q W = rw (q, ← same) W
-
--- ---- an input out of form, or too long
-module _ {input old new : List ℕ} {r : ℕ} where
-  pub answers_too_long : 4096 < length input → Written (refusal_text 16 0 (pos 0)) old new r → Answers input old new r
-  unfolding record_of refusal
-  answers_too_long l W = record { text = _; prints = too_long l; written = W }
-
-  module _ (p : Parsed) (l : length input ≤ 4096) (R : Reads input (read_of p)) where
-    pub answers_bad_line : (line : ℕ) → p.form ≡ Bad line → Written (record_of (form_answer p.form)) old new r → Answers input old new r
-    unfolding read_of
-    answers_bad_line line b W = record { text = _; prints = bad_line l R (bad_is_15 p line b); written = W }
-
-    pub answers_refused : p.form ≡ Good → (v : Verdict) → v ≡ verdict_of p.list 65536 → (number task : ℕ) (margin : ℤ) (reached period : ℕ) → v ≡ Refused number task margin reached period
-        → Written (record_of (verdict_answer v)) old new r → Answers input old new r
-    unfolding read_of verdict_answer
-    answers_refused good v e number task margin reached period q W =
-        record {
-          text = _;
-          prints = refused l R (good_is_0 p good) (λ z. refused_not_0 p.list 65536 number task margin reached period (sym e ∙ q) (sym (ap (λ (x : Verdict). (verdict_answer x).number) (sym e ∙ q)) ∙ z));
-          written = rw e at W;
-        }
-
--- ---- an accepted list
-module _ (l : TaskList) (v : Verdict) (e : v ≡ verdict_of l 65536) (cycle jobs task : ℕ) (margin : ℤ) (q : v ≡ Accepted cycle jobs task margin) where
-  module _ (lent built : List ℕ) (room : 4096 ≤ length lent) (w : Verdict) (is-built : Built l 65536 lent built w) where
-    built_accepted : w ≡ Accepted cycle jobs task margin
-    built_accepted = built_judged l 65536 room is-built ∙ sym e ∙ q
-
-    pub never_short : {A : Type 0} (number task' : ℕ) (margin' : ℤ) (reached period : ℕ) → w ≡ Refused number task' margin' reached period → A
-    never_short number task' margin' reached period short =
-        let both : Accepted cycle jobs task margin ≡ Refused number task' margin' reached period = sym built_accepted ∙ short in
-        let z : ◌≡◌ {A = ℕ} 0 1 = cc in
-        absurd (omega arith)
-
-  pub answers_table : {input old new : List ℕ} {r : ℕ} (p : Parsed) → p.list ≡ l → p.form ≡ Good → length input ≤ 4096 → Reads input (read_of p)
-      → (lent built : List ℕ) → 4096 ≤ length lent → (w : Verdict) → Built l 65536 lent built w
-      → Written (table_text (take cycle built)) old new r → (cycle ≤ 4096 → r ≤ 40972) → Answers input old new r × (r ≤ 40972)
-  unfolding read_of verdict_answer
-  answers_table {old = old} {new = new} {r = r} p pl good li R lent built room w is-built W fits =
-      let judged = ap (λ (x : TaskList). verdict_of x 65536) pl ∙ sym e ∙ q in
-      let is_accepted = built_accepted lent built room w is-built in
-      let shown = built_entries l 65536 room is-built cycle jobs task margin is_accepted ∙ ap₂ entries (sym pl) (sym (ap (λ (x : Verdict). (verdict_answer x).cycle) judged)) in (
-        record {
-          text = _;
-          prints = accepted li R (good_is_0 p good) (ap (λ (x : Verdict). (verdict_answer x).number) judged);
-          written = subst (λ (t : List ℕ). Written (table_text t) old new r) shown W;
-        },
-        fits (built_within l 65536 room is-built cycle jobs task margin is_accepted),
-      )
-
--- ---- the note
+-- ---- the note of a refusal
 writes_nothing : {old : List ℕ} → Written [] old old 0
 unfolding overwrite
 writes_nothing = record { whole = refl; bytes = refl }
 
-module _ {old : List ℕ} (v : Verdict) where
-  pub notes_accepted : (cycle jobs task : ℕ) (margin : ℤ) → v ≡ Accepted cycle jobs task margin → Written (note_of (verdict_answer v)) old old 0
-  unfolding note_of verdict_answer choose
-  notes_accepted cycle jobs task margin q = rw q writes_nothing
+pub notes_clash : (e : Refusal) {task reached period : ℕ} → e ≡ CycleTooLong task reached period → {old new : List ℕ} {r : ℕ} → Written (clash_text reached period) old new r
+    → Written (note_of (refusal_answer e)) old new r
+unfolding note_of refusal_answer clash choose
+notes_clash e q W = rw q W
 
-  module _ (number task : ℕ) (margin : ℤ) (reached period : ℕ) (q : v ≡ Refused number task margin reached period) where
-    pub notes_other : (number ≡ 6 → ⊥) → Written (note_of (verdict_answer v)) old old 0
-    unfolding note_of verdict_answer
-    notes_other other = rw (q, choose_no _ (clash_text reached period) [] (ne_eqb number 6 other)) writes_nothing
+pub notes_other : (e : Refusal) → ((task reached period : ℕ) → e ≡ CycleTooLong task reached period → ⊥) → {old : List ℕ} → Written (note_of (refusal_answer e)) old old 0
+unfolding note_of refusal_answer refusal choose
+notes_other NoTasks h = writes_nothing
+notes_other TooManyTasks h = writes_nothing
+notes_other (PeriodOutside task) h = writes_nothing
+notes_other (RuntimeOutside task) h = writes_nothing
+notes_other (DeadlineOutside task) h = writes_nothing
+notes_other (MemoryExceeded task) h = writes_nothing
+notes_other (CycleTooLong task reached period) h = absurd (h task reached period refl)
+notes_other (Late task margin) h = writes_nothing
+notes_other (Fails task) h = writes_nothing
+notes_other ShortTable h = writes_nothing
+notes_other ShortLog h = writes_nothing
+notes_other (OtherForm place) h = writes_nothing
+notes_other OtherLength h = writes_nothing
+notes_other EntryAbove h = writes_nothing
+notes_other NoRoom h = writes_nothing
 
-    pub notes_clash : {new : List ℕ} {r : ℕ} → number ≡ 6 → Written (clash_text reached period) old new r → Written (note_of (verdict_answer v)) old new r
-    unfolding note_of verdict_answer
-    notes_clash six W = rw (q, choose_yes _ (clash_text reached period) [] (eq-eqb number 6 six)) W
+-- The record of a list that is accepted, were it printed.
+pub writes_accepted : (v : Verdict) (a : Accepted) → v ≡ Ok a → {m : ℤ} → m ≡ a.margin → {old new : List ℕ} {r : ℕ} → Written (refusal_text 0 a.task m) old new r → Written (record_of (verdict_answer v)) old new r
+unfolding record_of verdict_answer
+writes_accepted v a q same W = rw (q, ← same) W
 
-module _ {input old : List ℕ} where
-  pub notes_too_long : 4096 < length input → Noted input old old 0
-  notes_too_long l = record { text = []; notes = of_no_list l; written = writes_nothing }
+-- The note of a list: nothing is said of an accepted one.
+pub notes_accepted : (v : Verdict) (a : Accepted) → v ≡ Ok a → {old : List ℕ} → Written (note_of (verdict_answer v)) old old 0
+unfolding note_of verdict_answer choose
+notes_accepted v a q = rw q writes_nothing
 
-  module _ (p : Parsed) (l : length input ≤ 4096) (R : Reads input (read_of p)) where
-    pub notes_bad_line : (line : ℕ) → p.form ≡ Bad line → Noted input old old 0
-    notes_bad_line line b = record { text = []; notes = of_bad_line l R (bad_is_15 p line b); written = writes_nothing }
+-- ---- an input that is too long, or has a bad line
+module _ {input : List ℕ} where
+  module _ {old new : List ℕ} {r : ℕ} where
+    pub answers_too_long : 4096 < length input → Written (refusal_text 16 0 (pos 0)) old new r → Answers input old new r
+    unfolding record_of refusal
+    answers_too_long l W = record { text = _; prints = too_long l; written = W }
 
-    pub notes_list : {new : List ℕ} {r : ℕ} → p.form ≡ Good → (v : Verdict) → v ≡ verdict_of p.list 65536 → Written (note_of (verdict_answer v)) old new r → Noted input old new r
+    pub answers_bad_line : (p : Result TaskList BadLine) → length input ≤ 4096 → Reads input (read_of p) → (bad : BadLine) → p ≡ Err bad → Written (record_of (form_answer p)) old new r → Answers input old new r
     unfolding read_of
-    notes_list good v e W = record { text = _; notes = of_list l R (good_is_0 p good); written = rw e at W }
+    answers_bad_line p l R bad b W = record { text = _; prints = bad_line l R (bad_is_15 p bad b); written = W }
 
--- What is printed or said lies within the lent bytes.
-pub within_lent : {text old new : List ℕ} {r : ℕ} → Written text old new r → r ≤ length old → r ≤ length new
-within_lent {text = text} {old = old} {new = new} W l = omega (arith, overwritten_length (λ i. get_or text i 0) old (length text) new W.bytes)
+  module _ {old : List ℕ} where
+    pub notes_too_long : 4096 < length input → Noted input old old 0
+    notes_too_long l = record { text = []; notes = of_no_list l; written = writes_nothing }
+
+    pub notes_bad_line : (p : Result TaskList BadLine) → length input ≤ 4096 → Reads input (read_of p) → (bad : BadLine) → p ≡ Err bad → Noted input old old 0
+    notes_bad_line p l R bad b = record { text = []; notes = of_bad_line l R (bad_is_15 p bad b); written = writes_nothing }
+
+-- ---- a list, and the verdict on it
+module _ {input : List ℕ} (p : Result TaskList BadLine) (l : length input ≤ 4096) (R : Reads input (read_of p)) (list : TaskList) (good : p ≡ Ok list) (v : Verdict) (ev : v ≡ verdict_of list 65536) where
+  judged : verdict_of (read_of p).list 65536 ≡ v
+  unfolding read_of list_read
+  judged = ap (λ (x : Result TaskList BadLine). verdict_of (list_read x) 65536) good ∙ sym ev
+
+  pub answers_refused : (e : Refusal) → v ≡ Err e → {old new : List ℕ} {r : ℕ} → Written (record_of (verdict_answer v)) old new r → Answers input old new r
+  unfolding verdict_answer
+  answers_refused e q {old = old} {new = new} {r = r} W = record {
+    text = _;
+    prints = refused l R (good_is_0 p list good) (λ z. refused_not_0 (read_of p).list 65536 e (judged ∙ q) (sym (ap (λ (x : Verdict). (verdict_answer x).number) (judged ∙ q)) ∙ z));
+    written = subst (λ (x : Verdict). Written (record_of (verdict_answer x)) old new r) (sym judged) W;
+  }
+
+  pub notes_list : {old new : List ℕ} {r : ℕ} → Written (note_of (verdict_answer v)) old new r → Noted input old new r
+  notes_list {old = old} {new = new} {r = r} W = record {
+    text = _;
+    notes = of_list l R (good_is_0 p list good);
+    written = subst (λ (x : Verdict). Written (note_of (verdict_answer x)) old new r) (sym judged) W;
+  }
+
+  -- ---- an accepted one, with its table
+  module _ (a : Accepted) (yes : v ≡ Ok a) {lent built : List ℕ} {w : Verdict} (room : 4096 ≤ length lent) (B : Built list 65536 lent built w) where
+    pub built_accepted : w ≡ Ok a
+    built_accepted = built_judged list 65536 room B ∙ sym ev ∙ yes
+
+    pub never_short : {A : Type 0} (e : Refusal) → w ≡ Err e → A
+    never_short e short =
+        let both : Ok a ≡ Err e = sym built_accepted ∙ short in
+        let z : ◌≡◌ {A = ℕ} 0 1 = cc in
+        absurd (omega arith)
+
+    pub answers_table : {old new : List ℕ} {r : ℕ} → Written (table_text (take a.cycle built)) old new r → Answers input old new r
+    answers_table {old = old} {new = new} {r = r} W = record {
+      text = _;
+      prints = accepted l R (good_is_0 p list good) (accepted_by_0 p list good room B a built_accepted);
+      written = subst (λ (t : List ℕ). Written (table_text t) old new r) (entries_read p list good room B a built_accepted) W;
+    }

@@ -3,23 +3,25 @@
 #![tactic(auto)]
 
 ghost use Rattle.std.specs.Prelude.{◌≤◌, length};
+ghost use Rattle.tasks.specs.Refusal.{refusal_answer};
 ghost use Rattle.printing.specs.Written.{Written};
 ghost use Rattle.verdict.specs.Verdict.{verdict_answer};
 ghost use Rattle.records.specs.Grammar.{form_answer};
 ghost use Rattle.output.specs.Output.{record_of, Answers, note_of, Noted};
 
-use records::Form;
+use records::BadLine;
 use std::io;
+use tasks::{Refusal, TaskList};
 use verdict::Verdict;
 
 // The refusal record of an input that is not in form.
-fn refuse_form(form: Form, out: &mut [u8]) -> usize
-    ensures written { Written (record_of (form_answer form)) out.old out.new result }
+fn refuse_form(read: Result<TaskList, BadLine>, out: &mut [u8]) -> usize
+    ensures written { Written (record_of (form_answer read)) out.old out.new result }
     ensures upper_bound { result ≤ 66 }
 {
-    match form {
-        Form::Bad(line) => printing::write_refusal(15, line, 0, out),
-        Form::Good => printing::write_refusal(0, 0, 0, out),
+    match read {
+        Err(bad) => printing::write_refusal(15, bad.line, 0, out),
+        Ok(_) => printing::write_refusal(0, 0, 0, out),
     }
 }
 
@@ -29,34 +31,37 @@ fn refuse_list(verdict: Verdict, out: &mut [u8]) -> usize
     ensures upper_bound { result ≤ 66 }
 {
     match verdict {
-        Verdict::Refused {
-            number,
-            task,
-            margin,
-            ..
-        } => printing::write_refusal(number, task, margin, out),
-        Verdict::Accepted { task, margin, .. } => printing::write_refusal(0, task, margin, out),
+        Err(refusal) => {
+            printing::write_refusal(refusal.number(), refusal.task(), refusal.margin(), out)
+        }
+        Ok(accepted) => printing::write_refusal(0, accepted.task, accepted.margin, out),
     }
 }
 
-// What is said beside the refusal record of a list: which two periods clash.
+// What is said beside the record of a refusal: which two periods clash.
+fn note_refusal(refusal: Refusal, out: &mut [u8]) -> usize
+    ensures written { Written (note_of (refusal_answer refusal)) out.old out.new result }
+    ensures upper_bound { result ≤ 39 }
+{
+    match refusal {
+        Refusal::CycleTooLong {
+            reached,
+            period,
+            ..
+        } => printing::write_clash(reached, period, out),
+        _ => 0,
+    }
+}
+
+// What is said beside the refusal record of a list.
 fn note_list(verdict: Verdict, out: &mut [u8]) -> usize
     ensures written { Written (note_of (verdict_answer verdict)) out.old out.new result }
     ensures upper_bound { result ≤ 39 }
 {
-    let Verdict::Refused {
-        number,
-        reached,
-        period,
-        ..
-    } = verdict
-    else {
-        return 0;
-    };
-    if number != 6 {
-        return 0;
+    match verdict {
+        Err(refusal) => note_refusal(refusal, out),
+        Ok(_) => 0,
     }
-    printing::write_clash(reached, period, out)
 }
 
 // How long the answer is, and what is said beside it.
@@ -78,25 +83,24 @@ fn answer(input: &[u8], table: &mut [u8], out: &mut [u8], words: &mut [u8]) -> L
         let answer = printing::write_refusal(16, 0, 0, out);
         return Lengths { answer, note: 0 };
     }
-    let parsed = records::read_list(input);
-    let form = parsed.form;
-    let Form::Good = form else {
-        let answer = refuse_form(form, out);
+    // the rules' form for this place: each answer is taken apart by let .. else, whose else prints the refusal record
+    let read = records::read_list(input);
+    let Ok(list) = read else {
+        let answer = refuse_form(read, out);
         return Lengths { answer, note: 0 };
     };
-    let list = parsed.list;
     let verdict = lent::judge_list(list, 65536);
-    let Verdict::Accepted { cycle, .. } = verdict else {
+    let Ok(accepted) = verdict else {
         let answer = refuse_list(verdict, out);
         let note = note_list(verdict, words);
         return Lengths { answer, note };
     };
     let built = lent::build_list(list, 65536, table);
-    let Verdict::Accepted { .. } = built else {
+    let Ok(_) = built else {
         let answer = refuse_list(built, out);
         return Lengths { answer, note: 0 };
     };
-    let answer = printing::write_table(table, cycle, out);
+    let answer = printing::write_table(table, accepted.cycle, out);
     Lengths { answer, note: 0 }
 }
 

@@ -1,14 +1,15 @@
 -- Texts that are put one after the other.
-use mathlib.Core.Path.{◌≡◌, refl, sym, ap, ◌∙◌}
+use mathlib.Core.Path.{◌≡◌, refl, sym, ap, subst, ◌∙◌}
 use mathlib.Core.List.{List, [], ◌∷◌, ◌++◌}
 use Prim.Native.Nat.{ℕ, zero, suc, ◌+◌, ◌≤◌, ◌<◌}
 use native.Mathlib.Omega.{arith}
 use lib.ListN.{length, get_or, take, set, length-append}
 use native.Mathlib.Numerals.{add-one}
-use lib.Seq.{sets, length-sets, take-suc, take_all, length-take-le, take-length}
+use lib.Seq.{sets, length-sets, take-suc, length-take-le, take-length}
 use Rattle.basis.specs.Bytes.{overwrite}
 use Rattle.printing.specs.Written.{Written}
-use Rattle.printing.specs.Shapes.{Room, Put}
+use Rattle.printing.specs.Shapes.{Room, Put, Puts}
+use Rattle.printing.specs.declared.Writer.{Writer}
 
 sets-append : (l : List ℕ) (i : ℕ) (a b : List ℕ) → sets l i (a ++ b) ≡ sets (sets l i a) (i + length a) b
 sets-append l i [] b = ap (λ (k : ℕ). sets l k b) (omega arith)
@@ -54,8 +55,20 @@ put_whole {text} {old} p = record {
 pub put_more : (text : List ℕ) (i : ℕ) {old mid new : List ℕ} {at r q : ℕ} → Put (take i text) at old mid r → Put (get_or text i 0 ∷ []) r mid new q → i < length text → Put (take (i + 1) text) at old new q
 put_more text i p s l = rw (add-one, take-suc text i 0 l) (chain p s)
 
-pub room_more : (text : List ℕ) (i : ℕ) {old mid : List ℕ} {at r b : ℕ} → Room text at → Put (take i text) at old mid r → i < length text → Room (b ∷ []) r
-room_more text i h p l = record { room = omega (arith, h.room, p.next, length-take-le i text (omega arith)) }
+-- ---- by a writer
+pub puts_nothing : (w : Writer) → Puts [] w w
+puts_nothing w = record { same_bytes = refl; put = put_nothing w.at w.out.now }
 
-pub put_all : (text : List ℕ) (i : ℕ) {old new : List ℕ} {at r : ℕ} → Put (take i text) at old new r → length text ≤ i → Put text at old new r
-put_all text i p l = rw (take_all i text l) at p
+pub puts_chain : {a b : List ℕ} {old mid new : Writer} → Puts a old mid → Puts b mid new → Puts (a ++ b) old new
+puts_chain p s = record { same_bytes = s.same_bytes ∙ p.same_bytes; put = chain p.put s.put }
+
+pub puts_room : (a b : List ℕ) {old mid : Writer} → Room (a ++ b) old.at → Puts a old mid → Room b mid.at
+puts_room a b h p = room_next a b h p.put
+
+pub puts_more : (text : List ℕ) (i : ℕ) {old mid new : Writer} → Puts (take i text) old mid → Puts (get_or text i 0 ∷ []) mid new → i < length text → Puts (take (i + 1) text) old new
+puts_more text i p s l = record { same_bytes = s.same_bytes ∙ p.same_bytes; put = put_more text i p.put s.put l }
+
+-- From the first byte on, where the lent bytes end as those of the writer.
+pub puts_whole : {text : List ℕ} {old new : Writer} {bytes : List ℕ} → Puts text old new → old.at ≡ 0 → bytes ≡ new.out.now → Written text old.out.now bytes new.at
+puts_whole {text} {old} {new} p start e =
+    put_whole (subst (λ (l : List ℕ). Put text 0 old.out.now l new.at) (sym e) (subst (λ (k : ℕ). Put text k old.out.now new.out.now new.at) start p.put))

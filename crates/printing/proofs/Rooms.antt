@@ -9,6 +9,7 @@ use lib.ListN.{length, get_or, take, length-take}
 use lib.Seq.{get_or-take}
 use mir.Syntax.{w32, w64}
 use mir.Val.{Fits, SFits}
+use Rattle.std.proofs.lemmas.Grind.{common_steps}
 use Rattle.basis.specs.Choose.{eq_or_ne}
 use Rattle.basis.specs.Sum.{sum, sum_same, sum_le}
 use Rattle.printing.specs.Text.{ascii, crlf, refusal_header, refusal_record, refusal_text, clash_text, quick_text, table_header, table_text, pair_record, records_to, needs_header, need_record, job_records, need_records, needs_text}
@@ -52,11 +53,20 @@ module _ (table : List ℕ) where
   unfolding records_to
   slice_room = part_room (records_to table) (λ t. pair_record t (get_or table t 0)) (λ t. refl)
 
-  pub table_room : (n : ℕ) → n ≤ 2 ^ 32 → ((i : ℕ) → get_or table i 0 < 256) → {old mid : List ℕ} {r : ℕ} → Put table_header 0 old mid r → Room (records_to table n) r
-  unfolding table_header crlf ascii
-  table_room n few bytes p = record {
-    room = omega (arith, p.next, records-length table 16 n (λ t l. slice-length 9 t (get_or table t 0) (omega arith) (bytes t)));
-  }
+-- As many of a table's first entries.
+pub table_room : (table : List ℕ) (n : ℕ) → n ≤ 2 ^ 32 → ((i : ℕ) → get_or table i 0 < 256) → {old mid : List ℕ} {r : ℕ} → Put table_header 0 old mid r
+    → Room (records_to (take n table) (length (take n table))) r
+unfolding table_header crlf ascii
+table_room table n few bytes p =
+    let long = length-take n table in
+    record {
+      room = omega (
+        arith,
+        p.next,
+        records-length (take n table) 16 (length (take n table))
+            (λ t l. slice-length 9 t (get_or (take n table) t 0) (omega arith) (rw (get_or-take n table t 0 (omega arith)) (bytes t))),
+      );
+    }
 
 module _ (needs : List ℕ) where
   pub job_room : (task from n k : ℕ) {old mid : List ℕ} {at r : ℕ} → Room (job_records needs task from n) at → Put (job_records needs task from k) at old mid r → k < n
@@ -97,11 +107,6 @@ table_room_enough table cycle bytes W l =
 pub needs_room_enough : (needs : List ℕ) (jobs : ℕ → ℕ) → ((i : ℕ) → get_or needs i 0 < 2 ^ 32) → {old new : List ℕ} {r : ℕ} → Written (needs_text needs jobs 16) old new r → sum jobs 16 ≤ 4096 → r ≤ 81935
 needs_room_enough needs jobs small W l = omega (arith, W.whole, needs_fit needs small jobs 16 (omega arith) l)
 
--- The records of a table's first entries are those of the table that ends there.
-records_take : (table : List ℕ) (cycle n : ℕ) → n ≤ cycle → records_to (take cycle table) n ≡ records_to table n
-unfolding records_to
-records_take table cycle zero l = refl
-records_take table cycle (suc n) l = rw (records_take table cycle n (omega arith), get_or-take cycle table n 0 l)
-
-pub cycle_records : (table : List ℕ) (cycle : ℕ) → records_to (take cycle table) (length (take cycle table)) ≡ records_to table (min cycle (length table))
-cycle_records table cycle = rw length-take (records_take table cycle (min cycle (length table)) (omega arith))
+-- As many of a table's entries as there are slices of the cycle.
+pub first_slices : (table : List ℕ) (cycle : ℕ) → take (min (length table) cycle) table ≡ take cycle table
+first_slices table cycle = grind (arith, common_steps)

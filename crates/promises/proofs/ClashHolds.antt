@@ -1,5 +1,5 @@
 -- Refusal 6 says which two periods clash: the proof of the statement in Clash.
-use Rattle.std.specs.Prelude.{◌≡◌, ◌↔◌, length}
+use Rattle.std.specs.Prelude.{◌≡◌, ◌↔◌, length, Result, Ok, Err}
 use Rattle.std.proofs.Math.Path.{refl, ap, subst}
 use Rattle.std.proofs.Common.{sym, ◌∙◌, lt-ltb}
 use Rattle.std.proofs.Math.Logic.{⊎_elim}
@@ -9,18 +9,17 @@ use Rattle.std.proofs.Math.Nat.{le_of_dvd}
 use Rattle.basis.specs.Choose.{choose_yes, choose_either, eq_or_ne, le_or_lt}
 use Rattle.basis.specs.Answer.{Answer, refusal, clash, none, ◌or_else◌, first_found, else_found, else_kept, first_is, found_none}
 use Rattle.tasks.specs.declared.TaskList.{TaskList}
+use Rattle.tasks.specs.declared.refusals.Refusal.{Refusal}
 use Rattle.tasks.specs.List.{task_at}
+use Rattle.tasks.specs.Refusal.{refusal_answer}
 use Rattle.tasks.proofs.Euclid.{lcm_is_least}
 use Rattle.tasks.specs.Bounds.{multiple, of_task, of_cycle, found, bounds_of, bounds_answer}
 use Rattle.tasks.specs.Kept.{UpTo}
 use Rattle.tasks.proofs.Kept.{PeriodsPos, one_test_none, multiple_pos, period_divides, multiple_least, tasks_none, count_most, tasks_most, memory_most, found_most, bounds_kept, bounds_found, broken_tells, nothing_found}
-use Rattle.verdict.specs.declared.Verdict.{Verdict}
-use Rattle.verdict.specs.declared.Verdict.TheVariants as verdict
-use Rattle.verdict.specs.Verdict.{verdict_of, verdict_answer}
+use Rattle.verdict.specs.Verdict.{Verdict, verdict_of, verdict_answer}
 use Rattle.verdict.specs.Table.{fitted}
 use Rattle.verdict.specs.Answers.{ByBounds, ForLateness, OnTimeAll}
 use Rattle.verdict.proofs.Told.{verdict_tells, verdict_found}
-use Rattle.start.specs.declared.Begun.{Begun}
 use Rattle.start.specs.Start.{begun_of, begun_answer}
 use Rattle.promises.specs.Clash.{ClashAt, Explains, Clash}
 
@@ -108,10 +107,10 @@ module _ (l : TaskList) (supply : ℕ) where
       (eq_or_ne (found l supply).number 0)
 
   judge_explains : Explains l (verdict_answer (verdict_of l supply))
-  unfolding verdict_answer
+  unfolding verdict_answer refusal_answer
   judge_explains =
       ⊎_elim
-      (λ (nz : ByBounds l supply (verdict_of l supply)). subst (Explains l) (sym (verdict_found l supply (broken_tells l supply _ _ _ _ nz.broken).some)) found_explains)
+      (λ (nz : ByBounds l supply (verdict_of l supply)). subst (Explains l) (sym (verdict_found l supply (broken_tells l supply nz.reason nz.broken).some)) found_explains)
       (⊎_elim
       (λ (h : ForLateness l supply (verdict_of l supply)). rw h.is (silent l _ (λ e. omega arith) refl refl))
       (λ (h : OnTimeAll l supply (verdict_of l supply)). rw h.is (silent l _ (λ e. omega arith) refl refl)))
@@ -119,19 +118,19 @@ module _ (l : TaskList) (supply : ℕ) where
 
   -- Building and starting hand the verdict's refusal on; their own says nothing of a clash.
   build_explains : (v : Verdict) (room : ℕ) → Explains l (verdict_answer v) → Explains l (verdict_answer (fitted v room))
-  unfolding fitted verdict_answer
-  build_explains (verdict.Refused n t m r p) room h = h
-  build_explains (verdict.Accepted c j t m) room h = choose_either (λ (v : Verdict). Explains l (verdict_answer v)) _ _ _ (silent l _ (λ e. omega arith) refl refl) h
+  unfolding fitted verdict_answer refusal_answer refusal
+  build_explains (Err r) room h = h
+  build_explains (Ok a) room h = choose_either (λ (v : Verdict). Explains l (verdict_answer v)) _ _ _ (silent l _ (λ e. omega arith) refl refl) h
 
   start_explains : (v : Verdict) (room : ℕ) → Explains l (verdict_answer v) → Explains l (begun_answer (begun_of v room))
-  unfolding begun_of begun_answer verdict_answer none refusal
-  start_explains (verdict.Refused n t m r p) room h = h
-  start_explains (verdict.Accepted c j t m) room h = choose_either (λ (b : Begun). Explains l (begun_answer b)) _ _ _ (silent l _ (λ e. omega arith) refl refl) (silent l _ (λ e. omega arith) refl refl)
+  unfolding begun_of begun_answer verdict_answer refusal_answer none refusal
+  start_explains (Err r) room h = h
+  start_explains (Ok a) room h = choose_either (λ (b : Result (Unit {0}) Refusal). Explains l (begun_answer b)) _ _ _ (silent l _ (λ e. omega arith) refl refl) (silent l _ (λ e. omega arith) refl refl)
 
 pub which_clash : Clash
 which_clash = record {
   bounds = bounds_explains;
   judge = judge_explains;
   build = λ l supply old new v built. subst (λ (x : Verdict). Explains l (verdict_answer x)) (sym built.answer) (build_explains l supply (verdict_of l supply) (length old) (judge_explains l supply));
-  start = λ l supply asked clock log log' r begins. subst (λ (x : Begun). Explains l (begun_answer x)) (sym begins.answer) (start_explains l supply (verdict_of l supply) (length log) (judge_explains l supply));
+  start = λ l supply asked clock log log' r begins. subst (λ (x : Result (Unit {0}) Refusal). Explains l (begun_answer x)) (sym begins.answer) (start_explains l supply (verdict_of l supply) (length log) (judge_explains l supply));
 }

@@ -1,5 +1,5 @@
 -- Demand 1 holds: the proof of the statement in Demand1. (That every call goes by its rules is RefusalsHold.)
-use Rattle.std.specs.Prelude.{◌≡◌, Bool, ◌||◌, List, ◌↔◌, ltb, eqb, length, replicate}
+use Rattle.std.specs.Prelude.{◌≡◌, Bool, ◌||◌, List, ◌↔◌, ltb, eqb, length, replicate, Option, Result, Some, None, Ok, Err}
 use Rattle.std.proofs.Math.Path.{refl, ap, subst}
 use Rattle.std.proofs.Common.{sym, ap₂, ◌∙◌, true≢false, ⊎_elim, inl, inr, arith, suc-mul, eq-eqb, ne_eqb}
 use Rattle.std.proofs.Math.Bool.{true, false, or-true}
@@ -11,14 +11,11 @@ use Rattle.plan.specs.Plan.{IsFirst}
 use Rattle.plan.proofs.Rank.{first_law, not_before_key, not_before_place}
 use Rattle.tasks.specs.declared.Task.{Task}
 use Rattle.tasks.specs.declared.TaskList.{TaskList}
+use Rattle.tasks.specs.declared.refusals.Refusal.{Refusal}
 use Rattle.tasks.specs.List.{task_at, plan_of}
 use Rattle.tasks.specs.Bounds.{jobs_of}
-use Rattle.verdict.specs.declared.Verdict.{Verdict}
-use Rattle.verdict.specs.declared.Verdict.TheVariants.{Accepted, Refused}
-use Rattle.verdict.specs.Verdict.{verdict_of, verdict_answer}
+use Rattle.verdict.specs.Verdict.{Verdict, verdict_of, verdict_answer}
 use Rattle.verdict.specs.Table.{tabled, Built}
-use Rattle.start.specs.declared.Asked.{Asked}
-use Rattle.start.specs.declared.Begun.{Begun}
 use Rattle.start.specs.declared.Started.{Started}
 use Rattle.start.specs.Start.{mode_of, start_state, no_run, begun_of, begun_state, begun_log, Begins, begun_answer}
 use Rattle.run.specs.declared.Mode.{Mode}
@@ -27,14 +24,11 @@ use Rattle.run.specs.declared.State.{State}
 use Rattle.run.specs.declared.Next.{Next}
 use Rattle.run.specs.State.{Job, fresh, period_of, key_of, runtime_of, current_of, job_of, deadline_next, release_next, due_of}
 use Rattle.run.specs.Places.{deadline_next_tells, release_next_tells}
-use Rattle.run.specs.Who.{unless_ended, first_open, running_by, running, who_refusal, of_entry, answered, who_of, runner_answer}
-use Rattle.run.specs.Step.{after_slice, state_after, log_after, step_refusal, next_state, next_log, Stepped, closed_answer, closed_number, closed_at}
+use Rattle.run.specs.Who.{unless_ended, first_open, running_by, running, who_refusal, unless_refused, of_entry, answered, who_of, runner_answer, who_says}
+use Rattle.run.specs.Step.{after_slice, state_after, log_after, step_refusal, next_state, next_log, Stepped, closed_answer, step_says, closed_at}
 use Rattle.run.specs.Accepted.{StepAccepted, who_runs, step_accepted, step_answers}
 use Rattle.run.specs.StateAfter.{slice_here, slice_elsewhere, job_anew, job_goes_on, handed_on, job_after_lem, Room, job_closed}
 use Rattle.run.specs.LogAfter.{log-length, log_elsewhere, log_done, log_over, log_late, log_open, log_ended}
-use Rattle.units.specs.declared.Slices.{Slices}
-use Rattle.units.specs.declared.Slices.TheVariants.{Count}
-use Rattle.units.specs.declared.Slices.TheVariants as slices
 use Rattle.units.specs.Conversion.{runtime_slices, period_slices, slices_of, slices_answer, deadline_slices}
 use Rattle.units.proofs.Laws.{runtime_fewest, larger_tick_no_fewer, without_tick, period_accepted, deadline_latest}
 use Rattle.readings.specs.declared.Entry.TheVariants.{NoEntry}
@@ -49,8 +43,8 @@ use Rattle.promises.specs.Demand1.{NoRun, BegunRun, RunsByTable, RunsFilling, Du
 -- ---- table building
 pub build_refused : (l : TaskList) (supply : ℕ) (old new : List ℕ) (v : Verdict) → Built l supply old new v → ((verdict_answer v).number ≡ 0 → ⊥) → new ≡ old
 unfolding verdict_answer tabled
-build_refused l supply old new (Accepted c j t m) built nz = absurd (nz refl)
-build_refused l supply old new (Refused n t m r p) built nz = built.bytes
+build_refused l supply old new (Ok a) built nz = absurd (nz refl)
+build_refused l supply old new (Err r) built nz = built.bytes
 
 -- ---- a start
 no_run_lem : NoRun no_run
@@ -68,7 +62,7 @@ no_run_lem = record {
   not_sound = λ S. omega (arith, S.count_from);
 }
 
-module _ (l : TaskList) (supply : ℕ) (asked : Asked) (clock : ℕ) (log log' : List ℕ) (r : Started) (begins : Begins l supply asked clock log log' r) where
+module _ (l : TaskList) (supply : ℕ) (asked : Option Mode) (clock : ℕ) (log log' : List ℕ) (r : Started) (begins : Begins l supply asked clock log log' r) where
   start_refused : ((begun_answer r.answer).number ≡ 0 → ⊥) → (log' ≡ log) × NoRun r.state
   unfolding begun_answer none refusal begun_of begun_state begun_log
   start_refused nz = go (verdict_of l supply) refl
@@ -79,12 +73,12 @@ module _ (l : TaskList) (supply : ℕ) (asked : Asked) (clock : ℕ) (log log' :
           (begins.bytes ∙ ap (λ (x : Verdict). begun_log x log) q ∙ el, subst NoRun (sym (begins.state ∙ ap (λ (x : Verdict). begun_state l asked clock x (length log)) q ∙ es)) no_run_lem)
 
       go : (v : Verdict) → verdict_of l supply ≡ v → (log' ≡ log) × NoRun r.state
-      go (Refused n t m r p) q = kept _ q refl refl
-      go (Accepted c j t m) q =
+      go (Err r) q = kept _ q refl refl
+      go (Ok a) q =
           ⊎_elim
-          (λ (e : ltb (length log) j ≡ true). kept _ q (choose_yes _ _ _ e) (choose_yes _ _ _ e))
-          (λ (e : ltb (length log) j ≡ false). absurd (nz (ap (λ (x : Begun). (begun_answer x).number) (begins.answer ∙ ap (λ (x : Verdict). begun_of x (length log)) q ∙ choose_no _ _ _ e))))
-          (bool_cases (ltb (length log) j))
+          (λ (e : ltb (length log) a.jobs ≡ true). kept _ q (choose_yes _ _ _ e) (choose_yes _ _ _ e))
+          (λ (e : ltb (length log) a.jobs ≡ false). absurd (nz (ap (λ (x : Result (Unit {0}) Refusal). (begun_answer x).number) (begins.answer ∙ ap (λ (x : Verdict). begun_of x (length log)) q ∙ choose_no _ _ _ e))))
+          (bool_cases (ltb (length log) a.jobs))
 
   start_begun : (begun_answer r.answer).number ≡ 0 → BegunRun l asked clock log log' r.state
   unfolding start_state plan_of period_of due_of runtime_of mode_of
@@ -117,10 +111,10 @@ module _ (l : TaskList) (supply : ℕ) (asked : Asked) (clock : ℕ) (log log' :
 module _ (s : State) (table : List ℕ) (z : (runner_answer (who_of s table)).number ≡ 0) where
   -- the task that is told is the one that runs
   told_runs : (runner_answer (who_of s table)).task ≡ running s table
-  unfolding who_of answered of_entry runner_answer none refusal
-  told_runs = go (who_refusal s table) (running s table) z
+  unfolding who_of answered unless_refused of_entry runner_answer none refusal
+  told_runs = go (who_refusal s table) (running s table) (sym (who_says s table) ∙ z)
     where
-      go : (n e : ℕ) → (runner_answer (answered n e)).number ≡ 0 → (runner_answer (answered n e)).task ≡ e
+      go : (n e : ℕ) → n ≡ 0 → (runner_answer (answered n e)).task ≡ e
       go zero zero _ = refl
       go zero (suc i) _ = refl
       go (suc n) e some = absurd (omega arith)
@@ -250,7 +244,7 @@ module _ (s : State) (table : List ℕ) (clock report : ℕ) (log log' : List �
   -- the number that the answer says is the one found
   pub step_said : (closed_answer r.answer).number ≡ step_refusal s table clock report log
   unfolding refusal
-  step_said = ap (λ (a : Answer). a.number) (ap closed_answer S.answer ∙ closed_number _)
+  step_said = ap (λ (a : Answer). a.number) (ap closed_answer S.answer ∙ step_says s table clock report log)
 
   pub step_refused : ((closed_answer r.answer).number ≡ 0 → ⊥) → (r.state ≡ s) × (log' ≡ log)
   unfolding next_state next_log
@@ -271,10 +265,10 @@ period_exact : (n slice : ℕ) → 0 < slice → slices_of (period_slices (n * s
 unfolding slices_of
 period_exact n slice pos = ap slices_of (period_accepted n slice pos)
 
-none_of_refused : (x : Slices) → ((slices_answer x).number ≡ 0 → ⊥) → slices_of x ≡ 0
+none_of_refused : (x : Option ℕ) → ((slices_answer x).number ≡ 0 → ⊥) → slices_of x ≡ 0
 unfolding slices_answer slices_of none refusal
-none_of_refused (slices.Count n) nz = absurd (nz refl)
-none_of_refused slices.Refused nz = refl
+none_of_refused (Some n) nz = absurd (nz refl)
+none_of_refused None nz = refl
 
 -- ---- so the demand holds
 pub demand_1 : Demand1

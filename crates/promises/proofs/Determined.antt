@@ -1,6 +1,6 @@
 -- Each public contract determines the answer and every lent byte afterwards: any two answers that keep it are equal. Each theorem
 -- names the function whose contract it repeats.
-use Rattle.std.specs.Prelude.{◌≡◌, List, Bool, ◌⊎◌, ℕ, zero, suc, ◌+◌, ◌-◌, ◌≤◌, ◌<◌, ltb, ℤ, length, take, replicate}
+use Rattle.std.specs.Prelude.{◌≡◌, List, ◌⊎◌, ℕ, zero, suc, ◌+◌, ◌-◌, ◌≤◌, ◌<◌, nat_lt, ℤ, length, take, replicate, Option, Result}
 use Rattle.std.proofs.Math.Path.{sym, ap}
 use Rattle.std.proofs.Common.{ap₂, subst, ◌∙◌, inl, inr, arith}
 use Rattle.std.proofs.Math.Logic.{⊎_elim}
@@ -12,35 +12,33 @@ use Rattle.plan.specs.Plan.{Demand, key_in}
 use Rattle.plan.proofs.Order.{one_order}
 use Rattle.needs.specs.Candidate.{one_explanation}
 use Rattle.tasks.specs.declared.TaskList.{TaskList}
-use Rattle.tasks.specs.declared.Bounds.{Bounds}
-use Rattle.tasks.specs.List.{list_of, plan_of}
+use Rattle.tasks.specs.declared.refusals.Refusal.{Refusal}
+use Rattle.tasks.specs.declared.InBounds.{InBounds}
+use Rattle.tasks.specs.List.{list_of, plan_of, due_of, key_of, runtime_of}
+use Rattle.tasks.specs.Refusal.{refusal_answer}
 use Rattle.tasks.specs.Euclid.{lcm_of}
 use Rattle.tasks.specs.Bounds.{bounds_of, cycle_of, job_sum, jobs_of}
+use Rattle.ranking.specs.declared.Ranked.{Ranked}
 use Rattle.ranking.specs.Ranks.{Ranks}
-use Rattle.quick.specs.declared.Quick.{Quick}
 use Rattle.quick.specs.Quick.{quick_of}
-use Rattle.verdict.specs.declared.Verdict.{Verdict}
-use Rattle.verdict.specs.Verdict.{verdict_of}
+use Rattle.verdict.specs.Verdict.{Verdict, verdict_of}
 use Rattle.verdict.specs.Answers.{OnTimeAll}
 use Rattle.verdict.specs.Table.{tabled, Built}
-use Rattle.start.specs.declared.Asked.{Asked}
-use Rattle.start.specs.declared.Begun.{Begun}
+use Rattle.run.specs.declared.Mode.{Mode}
 use Rattle.start.specs.declared.Started.{Started}
 use Rattle.start.specs.Start.{Begins}
 use Rattle.run.specs.declared.State.{State}
-use Rattle.run.specs.declared.Runner.{Runner}
-use Rattle.run.specs.declared.Closed.{Closed}
+use Rattle.run.specs.declared.Refusal.{Refusal as RunRefusal}
 use Rattle.run.specs.declared.Next.{Next}
-use Rattle.run.specs.Who.{who_of}
+use Rattle.run.specs.Who.{number_of, who_of}
 use Rattle.run.specs.State.{place_in}
 use Rattle.run.specs.Step.{Stepped, SteppedIn}
 use Rattle.readings.specs.declared.Entry.{Entry}
-use Rattle.readings.specs.declared.Refusal.{Refusal}
+use Rattle.readings.specs.declared.Refusal.{Refusal as ReadRefusal}
 use Rattle.readings.specs.declared.Logged.{Logged}
 use Rattle.readings.specs.Reading.{entry_of, refusal_of, logged_of}
-use Rattle.units.specs.declared.Slices.{Slices}
 use Rattle.units.specs.Conversion.{runtime_slices, period_slices, deadline_slices}
-use Rattle.records.specs.declared.Parsed.{Parsed}
+use Rattle.records.specs.declared.BadLine.{BadLine}
 use Rattle.records.specs.Grammar.{read_of, Reads}
 use Rattle.records.proofs.Reading.{reads_one}
 use Rattle.printing.specs.Text.{refusal_text, clash_text, quick_text, table_text, needs_text, no_text}
@@ -55,11 +53,10 @@ use Rattle.vcd.specs.Form.{vcd_text}
 use Rattle.vcd.specs.OneRun.{of_one_run}
 use Rattle.vcd.specs.Beginnings.{longest_one}
 use Rattle.dump.specs.Wrote.{Wrote}
-use Rattle.readback.specs.declared.Found.{Found}
+use Rattle.readback.specs.declared.Deviation.{Deviation}
 use Rattle.readback.specs.Reads.{Reads as FileReads}
 use Rattle.readback.specs.Determined.{determined as file-determined}
-use Rattle.explain.specs.declared.Viewed.{Viewed}
-use Rattle.explain.specs.Seen.{refused_by, AfterList, run_number, checked_of, NeedsIn, Yes, NoNeeds, Explained, ExplainsRun}
+use Rattle.explain.specs.Seen.{Viewed, refused_by, AfterList, run_number, checked_of, NeedsIn, Yes, NoNeeds, Explained, ExplainsRun}
 use Rattle.viewer.specs.Viewer.{shown, Writes, NoForm, Of, ReadsRun, ReadsBack, ExplainsFile}
 use Rattle.promises.specs.Demand3.{jobs_in}
 use Rattle.promises.proofs.ViewerHolds.{Passed, ByList, after_list, sound, divides}
@@ -73,6 +70,10 @@ record PartOf (f : ℕ → ℕ) (n x : ℕ) : Type 0 where
   inside : place < f part
   is : x ≡ sum f part + place
 
+-- Of no task yet: all zeros.
+abbrev none_ranked : Ranked
+none_ranked = record { order = replicate 16 0; periods = replicate 16 0; dues = replicate 16 0; runtimes = replicate 16 0 }
+
 -- A contract that is an equation leaves one answer, whatever the function.
 pub one_answer : {A : Type 0} {x r r' : A} → r ≡ x → r' ≡ x → r ≡ r'
 one_answer e e' = e ∙ sym e'
@@ -81,36 +82,68 @@ one_answer e e' = e ∙ sym e'
 pub lcm : (a b r r' : ℕ) → r ≡ lcm_of a b → r' ≡ lcm_of a b → r ≡ r'
 lcm a b r r' e e' = one_answer e e'
 
-pub check_bounds : (l : TaskList) (supply : ℕ) (r r' : Bounds) → r ≡ bounds_of l supply → r' ≡ bounds_of l supply → r ≡ r'
+pub check_bounds : (l : TaskList) (supply : ℕ) (r r' : Result InBounds Refusal) → r ≡ bounds_of l supply → r' ≡ bounds_of l supply → r ≡ r'
 check_bounds l supply r r' e e' = one_answer e e'
 
--- ranking: by_rank, with the four arrays
-pub by_rank : (l : TaskList) (order₀ periods₀ dues₀ runtimes₀ order order' periods periods' dues dues' runtimes runtimes' : List ℕ)
-    → Ranks l order₀ periods₀ dues₀ runtimes₀ order periods dues runtimes → Ranks l order₀ periods₀ dues₀ runtimes₀ order' periods' dues' runtimes'
-    → (order ≡ order') × (periods ≡ periods') × (dues ≡ dues') × (runtimes ≡ runtimes')
+-- tasks: of a task, due_of, key_of, runtime_of
+pub due_of_task : (t : Task) (r r' : ℕ) → r ≡ due_of t → r' ≡ due_of t → r ≡ r'
+due_of_task t r r' e e' = one_answer e e'
+
+pub key_of_task : (t : Task) (r r' : ℕ) → ((k : ℕ) → r ≡ key_of t k) → ((k : ℕ) → r' ≡ key_of t k) → r ≡ r'
+key_of_task t r r' e e' = one_answer (e 0) (e' 0)
+
+pub runtime_of_task : (t : Task) (r r' : ℕ) → ((k : ℕ) → r ≡ runtime_of t k) → ((k : ℕ) → r' ≡ runtime_of t k) → r ≡ r'
+runtime_of_task t r r' e e' = one_answer (e 0) (e' 0)
+
+-- tasks: of a refusal, number, task, margin, reached, period
+pub refusal_number : (x : Refusal) (r r' : ℕ) → r ≡ (refusal_answer x).number → r' ≡ (refusal_answer x).number → r ≡ r'
+refusal_number x r r' e e' = one_answer e e'
+
+pub refusal_task : (x : Refusal) (r r' : ℕ) → r ≡ (refusal_answer x).task → r' ≡ (refusal_answer x).task → r ≡ r'
+refusal_task x r r' e e' = one_answer e e'
+
+pub refusal_margin : (x : Refusal) (r r' : ℤ) → r ≡ (refusal_answer x).margin → r' ≡ (refusal_answer x).margin → r ≡ r'
+refusal_margin x r r' e e' = one_answer e e'
+
+pub refusal_reached : (x : Refusal) (r r' : ℕ) → r ≡ (refusal_answer x).reached → r' ≡ (refusal_answer x).reached → r ≡ r'
+refusal_reached x r r' e e' = one_answer e e'
+
+pub refusal_period : (x : Refusal) (r r' : ℕ) → r ≡ (refusal_answer x).period → r' ≡ (refusal_answer x).period → r ≡ r'
+refusal_period x r r' e e' = one_answer e e'
+
+-- ranking: unranked; by_rank, with the four arrays
+pub unranked : (r r' : Ranked) → r ≡ none_ranked → r' ≡ none_ranked → r ≡ r'
+unranked r r' e e' = one_answer e e'
+
+pub by_rank : (l : TaskList) (old ranked ranked' : Ranked)
+    → Ranks l old.order old.periods old.dues old.runtimes ranked.order ranked.periods ranked.dues ranked.runtimes
+    → Ranks l old.order old.periods old.dues old.runtimes ranked'.order ranked'.periods ranked'.dues ranked'.runtimes → ranked ≡ ranked'
 unfolding plan_of
-by_rank l order₀ periods₀ dues₀ runtimes₀ order order' periods periods' dues dues' runtimes runtimes' R R' =
+by_rank l old ranked ranked' R R' =
     ⊎_elim
     (λ (few : l.count ≤ 16).
     let one = R.few few in
     let other = R'.few few in
-    let same = one_order (key_in (plan_of l) 0) l.count one.sorted other.sorted (one.ranked 0) (other.ranked 0) in (
-      one.order_is ∙ overwrite_same _ _ order₀ l.count (λ k lk. same k lk) ∙ sym other.order_is,
-      one.periods_are ∙ overwrite_same _ _ periods₀ l.count (λ k lk. ap (plan_of l).period (same k lk)) ∙ sym other.periods_are,
-      one.dues_are ∙ overwrite_same _ _ dues₀ l.count (λ k lk. ap (plan_of l).due (same k lk)) ∙ sym other.dues_are,
-      one.runtimes_are ∙ overwrite_same _ _ runtimes₀ l.count (λ k lk. ap (λ (i : ℕ). (plan_of l).runtime i 0) (same k lk)) ∙ sym other.runtimes_are,
-    ))
+    let same = one_order (key_in (plan_of l) 0) l.count one.sorted other.sorted (one.ranked 0) (other.ranked 0) in
+    arrays_same
+    (one.order_is ∙ overwrite_same _ _ old.order l.count (λ k lk. same k lk) ∙ sym other.order_is)
+    (one.periods_are ∙ overwrite_same _ _ old.periods l.count (λ k lk. ap (plan_of l).period (same k lk)) ∙ sym other.periods_are)
+    (one.dues_are ∙ overwrite_same _ _ old.dues l.count (λ k lk. ap (plan_of l).due (same k lk)) ∙ sym other.dues_are)
+    (one.runtimes_are ∙ overwrite_same _ _ old.runtimes l.count (λ k lk. ap (λ (i : ℕ). (plan_of l).runtime i 0) (same k lk)) ∙ sym other.runtimes_are))
     (λ (many : 16 < l.count).
     let one = R.too_many many in
     let other = R'.too_many many in
-    (one_answer one.0 other.0, one_answer one.1 other.1, one_answer one.2 other.2, one_answer one.3 other.3))
+    arrays_same (one_answer one.0 other.0) (one_answer one.1 other.1) (one_answer one.2 other.2) (one_answer one.3 other.3))
     (le_or_lt l.count 16)
+  where
+    arrays_same : ranked.order ≡ ranked'.order → ranked.periods ≡ ranked'.periods → ranked.dues ≡ ranked'.dues → ranked.runtimes ≡ ranked'.runtimes → ranked ≡ ranked'
+    arrays_same o p d r = λ k. record { order = o k; periods = p k; dues = d k; runtimes = r k }
 
 -- quick: ask; lent: ask_list; and over the lent list, ask_lent
-pub ask : (l : TaskList) (supply : ℕ) (r r' : Quick) → r ≡ quick_of l supply → r' ≡ quick_of l supply → r ≡ r'
+pub ask : (l : TaskList) (supply : ℕ) (r r' : Result (Unit {0}) Refusal) → r ≡ quick_of l supply → r' ≡ quick_of l supply → r ≡ r'
 ask l supply r r' e e' = one_answer e e'
 
-pub ask_lent : (ts : List Task) (supply : ℕ) (r r' : Quick) → r ≡ quick_of (list_of ts) supply → r' ≡ quick_of (list_of ts) supply → r ≡ r'
+pub ask_lent : (ts : List Task) (supply : ℕ) (r r' : Result (Unit {0}) Refusal) → r ≡ quick_of (list_of ts) supply → r' ≡ quick_of (list_of ts) supply → r ≡ r'
 ask_lent ts supply r r' e e' = one_answer e e'
 
 -- verdict: judge; lent: judge_list
@@ -123,10 +156,10 @@ build l supply old new new' r r' one other =
     (one_answer one.answer other.answer, one.bytes ∙ ap (λ (v : Verdict). tabled l v old) (one_answer one.answer other.answer) ∙ sym other.bytes)
 
 -- start: start, with the log; lent: start_list
-pub start : (l : TaskList) (supply : ℕ) (asked : Asked) (clock : ℕ) (log new new' : List ℕ) (r r' : Started)
+pub start : (l : TaskList) (supply : ℕ) (asked : Option Mode) (clock : ℕ) (log new new' : List ℕ) (r r' : Started)
     → Begins l supply asked clock log new r → Begins l supply asked clock log new' r' → (r ≡ r') × (new ≡ new')
 start l supply asked clock log new new' r r' one other =
-    (ap₂ (λ (a : Begun) (s : State). record { answer = a; state = s }) (one_answer one.answer other.answer) (one_answer one.state other.state), one_answer one.bytes other.bytes)
+    (ap₂ (λ (a : Result (Unit {0}) Refusal) (s : State). record { answer = a; state = s }) (one_answer one.answer other.answer) (one_answer one.state other.state), one_answer one.bytes other.bytes)
 
 -- lent: judge_lent, build_lent, start_lent, of the list that the records make
 pub judge_lent : (ts : List Task) (supply : ℕ) (r r' : Verdict) → r ≡ verdict_of (list_of ts) supply → r' ≡ verdict_of (list_of ts) supply → r ≡ r'
@@ -135,51 +168,54 @@ judge_lent ts supply r r' e e' = one_answer e e'
 pub build_lent : (ts : List Task) (supply : ℕ) (old new new' : List ℕ) (r r' : Verdict) → Built (list_of ts) supply old new r → Built (list_of ts) supply old new' r' → (r ≡ r') × (new ≡ new')
 build_lent ts supply = build (list_of ts) supply
 
-pub start_lent : (ts : List Task) (supply : ℕ) (asked : Asked) (clock : ℕ) (log new new' : List ℕ) (r r' : Started)
+pub start_lent : (ts : List Task) (supply : ℕ) (asked : Option Mode) (clock : ℕ) (log new new' : List ℕ) (r r' : Started)
     → Begins (list_of ts) supply asked clock log new r → Begins (list_of ts) supply asked clock log new' r' → (r ≡ r') × (new ≡ new')
 start_lent ts supply = start (list_of ts) supply
 
+-- run: of a refusal, number
+pub run_refusal_number : (x : RunRefusal) (r r' : ℕ) → r ≡ number_of x → r' ≡ number_of x → r ≡ r'
+run_refusal_number x r r' e e' = one_answer e e'
+
 -- run: who
-pub who : (s : State) (table : List ℕ) (r r' : Runner) → r ≡ who_of s table → r' ≡ who_of s table → r ≡ r'
+pub who : (s : State) (table : List ℕ) (r r' : Result (Option ℕ) RunRefusal) → r ≡ who_of s table → r' ≡ who_of s table → r ≡ r'
 who s table r r' e e' = one_answer e e'
 
 -- run: step, with the log
 pub step : (s : State) (table : List ℕ) (clock report : ℕ) (log new new' : List ℕ) (r r' : Next)
     → Stepped s table clock report log new r → Stepped s table clock report log new' r' → (r ≡ r') × (new ≡ new')
 step s table clock report log new new' r r' S S' =
-    (ap₂ (λ (a : Closed) (x : State). record { answer = a; state = x }) (one_answer S.answer S'.answer) (one_answer S.state S'.state), one_answer S.bytes S'.bytes)
+    (ap₂ (λ (a : Result (Unit {0}) RunRefusal) (x : State). record { answer = a; state = x }) (one_answer S.answer S'.answer) (one_answer S.state S'.state), one_answer S.bytes S'.bytes)
 
--- run: step_in_place, with the arrays and the log; place
-pub step_in_place : (s : State) (table : List ℕ) (clock report : ℕ) (log new new' used used' : List ℕ) (ended ended' : List Bool) (r r' : Closed)
-    → SteppedIn s table clock report log new used ended r → SteppedIn s table clock report log new' used' ended' r' → (r ≡ r') × (new ≡ new') × (used ≡ used') × (ended ≡ ended')
-step_in_place s table clock report log new new' used used' ended ended' r r' S S' =
-    (one_answer S.answer S'.answer, one_answer S.bytes S'.bytes, one_answer S.used S'.used, one_answer S.ended S'.ended)
+-- run: step_in_place, with the state and the log; place
+pub step_in_place : (s : State) (table : List ℕ) (clock report : ℕ) (log new new' : List ℕ) (after after' : State) (r r' : Result (Unit {0}) RunRefusal)
+    → SteppedIn s table clock report log new after r → SteppedIn s table clock report log new' after' r' → (r ≡ r') × (new ≡ new') × (after ≡ after')
+step_in_place s table clock report log new new' after after' r r' S S' = (one_answer S.answer S'.answer, one_answer S.bytes S'.bytes, one_answer S.state S'.state)
 
-pub place : (periods : List ℕ) (cycle position i r r' : ℕ) → r ≡ choose (ltb i 16) (place_in periods cycle position i) 0 → r' ≡ choose (ltb i 16) (place_in periods cycle position i) 0 → r ≡ r'
+pub place : (periods : List ℕ) (cycle position i r r' : ℕ) → r ≡ choose (nat_lt i 16) (place_in periods cycle position i) 0 → r' ≡ choose (nat_lt i 16) (place_in periods cycle position i) 0 → r ≡ r'
 place periods cycle position i r r' e e' = one_answer e e'
 
 -- readings: read_entry, read_refusal, read_logged
 pub read_entry : (byte count : ℕ) (r r' : Entry) → r ≡ entry_of byte count → r' ≡ entry_of byte count → r ≡ r'
 read_entry byte count r r' e e' = one_answer e e'
 
-pub read_refusal : (number : ℕ) (r r' : Refusal) → r ≡ refusal_of number → r' ≡ refusal_of number → r ≡ r'
+pub read_refusal : (number : ℕ) (r r' : ReadRefusal) → r ≡ refusal_of number → r' ≡ refusal_of number → r ≡ r'
 read_refusal number r r' e e' = one_answer e e'
 
 pub read_logged : (byte : ℕ) (r r' : Logged) → r ≡ logged_of byte → r' ≡ logged_of byte → r ≡ r'
 read_logged byte r r' e e' = one_answer e e'
 
 -- units: runtime_slices, period_slices, deadline_slices
-pub runtime_slices_lem : (micros slice tick : ℕ) (r r' : Slices) → r ≡ runtime_slices micros slice tick → r' ≡ runtime_slices micros slice tick → r ≡ r'
+pub runtime_slices_lem : (micros slice tick : ℕ) (r r' : Option ℕ) → r ≡ runtime_slices micros slice tick → r' ≡ runtime_slices micros slice tick → r ≡ r'
 runtime_slices_lem micros slice tick r r' e e' = one_answer e e'
 
-pub period_slices_lem : (micros slice : ℕ) (r r' : Slices) → r ≡ period_slices micros slice → r' ≡ period_slices micros slice → r ≡ r'
+pub period_slices_lem : (micros slice : ℕ) (r r' : Option ℕ) → r ≡ period_slices micros slice → r' ≡ period_slices micros slice → r ≡ r'
 period_slices_lem micros slice r r' e e' = one_answer e e'
 
-pub deadline_slices_lem : (micros slice : ℕ) (r r' : Slices) → r ≡ deadline_slices micros slice → r' ≡ deadline_slices micros slice → r ≡ r'
+pub deadline_slices_lem : (micros slice : ℕ) (r r' : Option ℕ) → r ≡ deadline_slices micros slice → r' ≡ deadline_slices micros slice → r ≡ r'
 deadline_slices_lem micros slice r r' e e' = one_answer e e'
 
 -- records: read_list
-pub read_list : (input : List ℕ) (r r' : Parsed) → Reads input (read_of r) → Reads input (read_of r') → r ≡ r'
+pub read_list : (input : List ℕ) (r r' : Result TaskList BadLine) → Reads input (read_of r) → Reads input (read_of r') → r ≡ r'
 read_list input r r' R R' = reads_one r r' R R'
 
 -- printing: write_refusal, write_clash, write_quick, write_table, with the lent bytes
@@ -211,12 +247,12 @@ pub close_slice : (table : List ℕ) (need : Demand) (c : Course) (log log' ends
     → SliceClosed table need c log ends r → SliceClosed table need c log' ends' r' → (r ≡ r') × (log ≡ log') × (ends ≡ ends')
 close_slice table need c log log' ends ends' r r' S S' =
     let after = one_answer S.after S'.after in (
-      ap₂ (λ (a : Closed) (x : State). record { answer = a; state = x }) (one_answer S.answer S'.answer) (ap (λ (x : Course). x.state) after),
+      ap₂ (λ (a : Result (Unit {0}) RunRefusal) (x : State). record { answer = a; state = x }) (one_answer S.answer S'.answer) (ap (λ (x : Course). x.state) after),
       ap (λ (x : Course). x.log) after,
       ap (λ (x : Course). x.ends) after,
     )
 
-pub drive : (l : TaskList) (supply : ℕ) (asked : Asked) (clock : ℕ) (needs table new new' log log₁ log₂ ends ends₁ ends₂ : List ℕ) (r r' : Driven)
+pub drive : (l : TaskList) (supply : ℕ) (asked : Option Mode) (clock : ℕ) (needs table new new' log log₁ log₂ ends ends₁ ends₂ : List ℕ) (r r' : Driven)
     → Drives l supply asked clock needs table new log log₁ ends ends₁ r → Drives l supply asked clock needs table new' log log₂ ends ends₂ r' → SameDrive new new' log₁ log₂ ends₁ ends₂ r r'
 drive l supply asked clock needs table new new' log log₁ log₂ ends ends₁ ends₂ r r' D D' =
     let built = build l supply table new new' r.built r'.built D.built D'.built in
@@ -234,11 +270,11 @@ pub write_run : (run old new new' : List ℕ) (r r' : ℕ) → Wrote (vcd_text (
 write_run run old new new' r r' W W' = (one_answer W.whole W'.whole, one_answer W.bytes W'.bytes)
 
 -- readback: read, with the lent bytes
-pub read_file : (file old new new' : List ℕ) (r r' : Found) → FileReads file old new r → FileReads file old new' r' → (r ≡ r') × (new ≡ new')
+pub read_file : (file old new new' : List ℕ) (r r' : Result ℕ Deviation) → FileReads file old new r → FileReads file old new' r' → (r ≡ r') × (new ≡ new')
 read_file file old new new' r r' R R' = file-determined file old new new' r r' R R'
 
 -- explain: check_run
-pub check_run : (l : TaskList) (supply : ℕ) (run : List ℕ) (r r' : Viewed) → r ≡ checked_of l supply run → r' ≡ checked_of l supply run → r ≡ r'
+pub check_run : (l : TaskList) (supply : ℕ) (run : List ℕ) (r r' : Result ℕ Refusal) → r ≡ checked_of l supply run → r' ≡ checked_of l supply run → r ≡ r'
 check_run l supply run r r' e e' = one_answer e e'
 
 part_of : (f : ℕ → ℕ) (n x : ℕ) → x < sum f n → PartOf f n x

@@ -1,5 +1,5 @@
 -- A pass is earned: log and jobs agree from an accepted start on, whatever is called, so no byte tells what was not.
-use Rattle.std.specs.Prelude.{◌≡◌, List, ℕ, zero, suc, ◌+◌, ◌≤◌, ◌<◌}
+use Rattle.std.specs.Prelude.{◌≡◌, List, ℕ, zero, suc, ◌+◌, ◌≤◌, ◌<◌, Result, Ok}
 use Rattle.std.proofs.Common.{sym, ◌∙◌, arith}
 use Rattle.std.proofs.Math.Path.{ap}
 use Rattle.std.proofs.Math.Logic.{⊎_elim}
@@ -13,8 +13,7 @@ use Rattle.tasks.specs.Bounds.{cycle_of}
 use Rattle.tasks.proofs.Kept.{plan_sound}
 use Rattle.start.specs.Start.{mode_of}
 use Rattle.run.specs.declared.State.{State}
-use Rattle.run.specs.declared.Closed.{Closed}
-use Rattle.run.specs.declared.Closed.TheVariants.{Accepted}
+use Rattle.run.specs.declared.Refusal.{Refusal}
 use Rattle.run.specs.Who.{running}
 use Rattle.run.specs.Step.{state_after, log_after, closed_answer}
 use Rattle.run.specs.Accepted.{StepAccepted, step_accepted, step_answers}
@@ -39,7 +38,7 @@ module _ (l : TaskList) (C : Calls l) where
   -- What a call makes of the state and the log: what it got, or what an accepted step gives.
   pub data Made (n : ℕ) : Type 0 where
     same : s (suc n) ≡ s n → g (suc n) ≡ g n → Made n
-    moved : StepAccepted (s n) (C.tables n) (C.clocks n) (C.reports n) (g n) → (C.answers n).answer ≡ Accepted
+    moved : StepAccepted (s n) (C.tables n) (C.clocks n) (C.reports n) (g n) → (C.answers n).answer ≡ Ok tt
         → s (suc n) ≡ state_after (s n) (ran n) (C.clocks n) (C.reports n) → g (suc n) ≡ log_after (s n) (ran n) (C.reports n) (g n) → Made n
 
   abbrev said : ℕ → ℕ
@@ -105,7 +104,7 @@ module _ (l : TaskList) (C : Calls l) where
         ⊎_elim
         (λ (z : byte n ≡ 0).
         let b = pass_brought (plan_of l) S (cycle_of l) (s n) (C.tables n) (C.clocks n) (C.reports n) (g n) accepted (honest n) i k li lk z (sym (rw (es, eg)) ∙ one) in
-        record { call = n; before = omega arith; went = ap (λ (x : Closed). (closed_answer x).number) a; ran_here = b.0; that_job = b.1; finished = b.2 })
+        record { call = n; before = omega arith; went = ap (λ (x : Result (Unit {0}) Refusal). (closed_answer x).number) a; ran_here = b.0; that_job = b.1; finished = b.2 })
         (λ (nz : byte n ≡ 0 → ⊥). earlier_too n (so_far (sym (stays_by n nz (made n)) ∙ one)))
         (eq_or_ne (byte n) 0)
 

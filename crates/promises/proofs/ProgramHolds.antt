@@ -9,8 +9,7 @@ use Rattle.basis.specs.Rules.{Refused, refused_not_0, breaks_rule, rule_told, br
 use Rattle.tasks.specs.declared.TaskList.{TaskList}
 use Rattle.tasks.specs.List.{list_of}
 use Rattle.tasks.specs.Bounds.{cycle_of}
-use Rattle.verdict.specs.declared.Verdict.{Verdict}
-use Rattle.verdict.specs.Verdict.{verdict_of, verdict_answer}
+use Rattle.verdict.specs.Verdict.{Verdict, verdict_of, verdict_answer}
 use Rattle.verdict.proofs.Told.{accepted_as}
 use Rattle.records.specs.Grammar.{accepted, refused, Read, Reads, good, bad}
 use Rattle.records.proofs.Reading.{parsed_reads}

@@ -1,7 +1,7 @@
 -- Every call goes by its rules: the answers of the definitions are the refusals of the paper's rows, in their order.
 use Rattle.std.proofs.Math.Path.{◌≡◌, refl, sym, ap, subst}
 use Rattle.std.proofs.Common.{◌∙◌, arith, mod-eq_of_lt}
-use Rattle.std.specs.Prelude.{true, ◌||◌, List, ◌⊎◌, ◌↔◌, eqb, length, get_or}
+use Rattle.std.specs.Prelude.{true, ◌||◌, List, ◌⊎◌, ◌↔◌, eqb, length, get_or, Option, Some, None, Ok, Err}
 use Rattle.std.proofs.Math.Bool.{false, true≢false, not, or-true}
 use Rattle.std.proofs.Math.Logic.{inl, inr, ⊎_elim}
 use Prim.Native.Nat.{ℕ, zero, suc, ◌+◌, ◌≤◌, ◌<◌}
@@ -17,16 +17,14 @@ use Rattle.plan.proofs.ExactTest.{fails_first_alone}
 use Rattle.tasks.specs.declared.Task.{Task}
 use Rattle.tasks.specs.declared.TaskList.{TaskList}
 use Rattle.tasks.specs.List.{task_at, plan_of}
+use Rattle.tasks.specs.Refusal.{refusal_answer}
 use Rattle.tasks.specs.Bounds.{multiple, memory_sum, cycle_of, jobs_of, of_count, of_numbers, of_task, of_memory, of_cycle, found, bounds_of, bounds_answer}
 use Rattle.tasks.specs.Kept.{TaskFits}
 use Rattle.tasks.proofs.Kept.{one_test_none, tasks_none, nothing_found, bounds_kept, bounds_found}
-use Rattle.verdict.specs.declared.Verdict.{Verdict}
-use Rattle.verdict.specs.declared.Verdict.TheVariants as verdict
-use Rattle.verdict.specs.Verdict.{verdict_from, verdict_of, verdict_answer}
+use Rattle.verdict.specs.Verdict.{Verdict, verdict_from, verdict_of, verdict_answer}
 use Rattle.verdict.specs.Table.{fitted, Built}
 use Rattle.verdict.specs.Answers.{ByBounds, ForLateness, OnTimeAll}
 use Rattle.verdict.proofs.Told.{verdict_tells, verdict_found, accepted_as}
-use Rattle.start.specs.declared.Asked.{Asked}
 use Rattle.start.specs.declared.Started.{Started}
 use Rattle.start.specs.Start.{begun_of, Begins, begun_answer}
 use Rattle.run.specs.declared.Mode.{Mode}
@@ -35,9 +33,8 @@ use Rattle.run.specs.declared.State.{State}
 use Rattle.run.specs.declared.Next.{Next}
 use Rattle.run.specs.State.{sound, job_count}
 use Rattle.run.specs.Sound.{sound_tells}
-use Rattle.run.specs.Who.{running, of9, of10, of11_by, of11, who_found, of_entry, answered, who_of, runner_answer}
-use Rattle.run.specs.Step.{of12, next_clock, of13, of14, step_found, Stepped, closed_answer, closed_number}
-use Rattle.units.specs.declared.Slices.TheVariants.{Count, Refused as NoSlices}
+use Rattle.run.specs.Who.{running, of9, of10, of11_by, of11, who_found, unless_refused, of_entry, answered, who_of, runner_answer, IsFound, some_back, who_found_is}
+use Rattle.run.specs.Step.{of12, next_clock, of13, of14, step_found, Stepped, closed_answer, step_says}
 use Rattle.units.specs.Conversion.{runtime_slices, period_slices, slices_answer, deadline_slices}
 use Rattle.units.proofs.Laws.{period_accepted, period_refused}
 use Rattle.promises.specs.Demand2.{FirstLate}
@@ -252,7 +249,7 @@ module _ (l : TaskList) (supply : ℕ) where
 
   -- within bounds, a verdict that refuses says 7, with cycle and job count 0
   late_or_not : NotBounds → (judged.number ≡ 0 → ⊥) → (judged.number ≡ 7) × (judged.cycle ≡ 0) × (judged.jobs ≡ 0) × (judged.reached ≡ 0) × (judged.period ≡ 0)
-  unfolding verdict_answer
+  unfolding verdict_answer refusal_answer
   late_or_not z nz =
       ⊎_elim
       (λ (h : ByBounds l supply (verdict_of l supply)). not_by_bounds l supply ((nothing_found l supply).0 z) h)
@@ -293,11 +290,11 @@ module _ (l : TaskList) (supply : ℕ) where
   refused_kept room nz = go (verdict_of l supply) nz
     where
       go : (v : Verdict) → ((verdict_answer v).number ≡ 0 → ⊥) → (fitted v room ≡ v) × (begun_answer (begun_of v room) ≡ verdict_answer v)
-      go (verdict.Accepted cycle jobs task margin) some = absurd (some refl)
-      go (verdict.Refused number task margin reached period) some = (refl, refl)
+      go (Ok a) some = absurd (some refl)
+      go (Err r) some = (refl, refl)
 
   pub build_goes : (old new : List ℕ) (v : Verdict) → Built l supply old new v → GoesBy (build_rules l supply (length old)) (verdict_answer v)
-  unfolding build_rules fitted verdict_answer refusal
+  unfolding build_rules fitted verdict_answer refusal_answer refusal
   build_goes old new v built =
       goes_then (list_rules l supply) (table_short l (length old) then no_more) judged _ list_goes (λ nz. ap verdict_answer (built.answer ∙ (refused_kept (length old) nz).0))
       (λ z.
@@ -305,8 +302,8 @@ module _ (l : TaskList) (supply : ℕ) where
       (sym (ap verdict_answer (built.answer ∙ ap (λ (x : Verdict). fitted x (length old)) (accepted_as l supply z).is) ∙ of_choice verdict_answer _ _ _))
       (goes_by_rule 7 _ _ _ refl (ltb-true (length old) (cycle_of l)) (lt-ltb (length old) (cycle_of l))))
 
-  pub start_goes : (asked : Asked) (clock : ℕ) (log log' : List ℕ) (r : Started) → Begins l supply asked clock log log' r → GoesBy (start_rules l supply (length log)) (begun_answer r.answer)
-  unfolding start_rules begun_of begun_answer refusal none
+  pub start_goes : (asked : Option Mode) (clock : ℕ) (log log' : List ℕ) (r : Started) → Begins l supply asked clock log log' r → GoesBy (start_rules l supply (length log)) (begun_answer r.answer)
+  unfolding start_rules begun_of begun_answer refusal_answer refusal none
   start_goes asked clock log log' r begins =
       goes_then (list_rules l supply) (log_short_for l (length log) then no_more) judged _ list_goes (λ nz. ap begun_answer begins.answer ∙ (refused_kept (length log) nz).1)
       (λ z.
@@ -365,17 +362,17 @@ module _ (s : State) (table : List ℕ) where
       choose_either Unnamed _ _ _ (choose_either Unnamed _ _ _ (entry_unnamed s.mode) (choose_either Unnamed _ _ _ (unnamed 10) unnamed_none)) (choose_either Unnamed _ _ _ unnamed_none (unnamed 9))
 
   pub who_goes : GoesBy (who_rules s table) (runner_answer (who_of s table))
-  unfolding who_of answered of_entry runner_answer none refusal
-  who_goes = goes_as _ (who_found s table) _ who_found_goes (told_none _ _) (λ nz. told_refused _ _ nz ∙ who_unnamed)
+  unfolding who_of answered unless_refused of_entry runner_answer none refusal
+  who_goes = goes_as _ (who_found s table) _ who_found_goes (told_none _ _) (λ nz. told_refused _ _ (who_found_is s table) nz ∙ who_unnamed)
     where
       told_none : (n e : ℕ) → n ≡ 0 → (runner_answer (answered n e)).number ≡ 0
       told_none zero zero z = refl
       told_none zero (suc i) z = refl
       told_none (suc n) e z = absurd (omega arith)
 
-      told_refused : (n e : ℕ) → (n ≡ 0 → ⊥) → runner_answer (answered n e) ≡ refusal n 0
-      told_refused zero e nz = absurd (nz refl)
-      told_refused (suc n) e nz = refl
+      told_refused : (n e : ℕ) → IsFound n → (n ≡ 0 → ⊥) → runner_answer (answered n e) ≡ refusal n 0
+      told_refused zero e f nz = absurd (nz refl)
+      told_refused (suc n) e f nz = ap (λ (x : ℕ). refusal x 0) (some_back n f)
 
 -- The next reading is the one that follows, in 32 bits.
 next_follows : (last clock : ℕ) → last ≤ 4294967295 → clock ≡ next_clock last → Follows last clock
@@ -432,7 +429,7 @@ module _ (s : State) (table : List ℕ) (clock report : ℕ) (log : List ℕ) wh
       (who_unnamed s table)
 
   pub step_goes : (log' : List ℕ) (r : Next) → Stepped s table clock report log log' r → s.clock ≤ 4294967295 → GoesBy (step_rules s table clock report log) (closed_answer r.answer)
-  step_goes log' r S u32 = subst (GoesBy (step_rules s table clock report log)) (sym (ap closed_answer S.answer ∙ closed_number _ ∙ step_unnamed)) (step_found_goes u32)
+  step_goes log' r S u32 = subst (GoesBy (step_rules s table clock report log)) (sym (ap closed_answer S.answer ∙ step_says s table clock report log ∙ step_unnamed)) (step_found_goes u32)
 
 -- ---- refusal 17
 pub runtime_goes : (micros slice tick : ℕ) → GoesBy (no_share slice tick then no_more) (slices_answer (runtime_slices micros slice tick))
@@ -455,7 +452,7 @@ period_goes micros slice =
     (eq_or_ne slice 0))
     (λ h. ⊎_elim (λ t. t) (λ f. other (sym (choose_no _ _ _ f) ∙ period_refused micros slice h)) (bool_cases _)))
   where
-    other : {A : Type 0} {n : ℕ} → Count n ≡ NoSlices → A
+    other : {A : Type 0} {n : ℕ} → Some n ≡ None → A
     other e = let z : ◌≡◌ {A = ℕ} 0 1 = cc in absurd (omega arith)
 
 pub deadline_goes : (micros slice : ℕ) → GoesBy (no_length slice then no_more) (slices_answer (deadline_slices micros slice))

@@ -1,17 +1,16 @@
 -- A state that fills goes on filling, and one that is not sound stays as it is: of neither a table is read.
-use Rattle.std.specs.Prelude.{◌≡◌, refl, Bool, true, false, List, ◌⊎◌, ℕ, zero, suc}
+use Rattle.std.specs.Prelude.{◌≡◌, refl, Bool, true, false, List, ◌⊎◌, ℕ, zero, suc, None}
 use Rattle.std.proofs.Common.{sym, ap, ◌∙◌, inl, inr, ⊎_elim, arith}
 use Rattle.basis.specs.Choose.{choose, choose_no, bool_cases, eq_or_ne}
 use Rattle.basis.specs.Answer.{Answer, refusal, none, ◌or_else◌, else_found, else_kept}
 use Rattle.tasks.specs.declared.TaskList.{TaskList}
-use Rattle.start.specs.declared.Asked.TheVariants.{Unnamed}
 use Rattle.start.specs.Start.{begun_answer}
 use Rattle.run.specs.declared.Mode.{Mode}
 use Rattle.run.specs.declared.Mode.TheVariants.{Filling}
 use Rattle.run.specs.declared.State.{State}
 use Rattle.run.specs.State.{sound}
 use Rattle.run.specs.Sound.{SoundState, sound_tells}
-use Rattle.run.specs.Who.{of9, of10, of11_by, of11, who_found, who_refusal, answered, of_entry, who_of, runner_answer, running}
+use Rattle.run.specs.Who.{of9, of10, of11_by, of11, who_found, who_refusal, who_of, runner_answer, running, who_says}
 use Rattle.run.specs.Step.{of12, of13, of14, step_found, step_refusal, closed_answer}
 use Rattle.run.specs.StateAfter.{handed_on}
 use Rattle.run.specs.Accepted.{step_accepted, step_answers}
@@ -37,13 +36,6 @@ only_unless : (b : Bool) (n : ℕ) → (n ≡ 11 → ⊥) → (choose b none (re
 unfolding choose refusal none
 only_unless true n other e = omega arith
 only_unless false n other e = other e
-
--- What is told of who runs has the number that was found.
-told_number : (m entry : ℕ) → m ≡ (runner_answer (answered m entry)).number
-unfolding answered of_entry runner_answer none refusal
-told_number zero zero = refl
-told_number zero (suc i) = refl
-told_number (suc m) entry = refl
 
 -- ---- such a state
 -- It fills, or is not sound.
@@ -97,7 +89,7 @@ module _ (l : TaskList) (C : CallsUnnamed l) where
       (eq_or_ne (closed_answer (C.answers n).answer).number 0)
 
   fills : (begun_answer C.begun.answer).number ≡ 0 → (n : ℕ) → (s n).mode ≡ Filling
-  fills z zero = ap (λ (x : State). x.mode) C.from_start ∙ (demand_1.start_begun l C.supply Unnamed C.clock C.log C.log_begun C.begun C.begins z).none_named refl
+  fills z zero = ap (λ (x : State). x.mode) C.from_start ∙ (demand_1.start_begun l C.supply None C.clock C.log C.log_begun C.begun C.begins z).none_named refl
   fills z (suc n) = ⊎_elim (λ e. ap (λ (x : State). x.mode) e ∙ fills z n) (λ h. h.0 ∙ fills z n) (next n)
 
   without : (n : ℕ) → Without (s n)
@@ -105,7 +97,7 @@ module _ (l : TaskList) (C : CallsUnnamed l) where
       ⊎_elim
       (λ (z : (begun_answer C.begun.answer).number ≡ 0). inl (fills z zero))
       (λ (nz : (begun_answer C.begun.answer).number ≡ 0 → ⊥).
-      inr (λ S. (demand_1.start_refused l C.supply Unnamed C.clock C.log C.log_begun C.begun C.begins nz).1.not_sound (rw C.from_start at S)))
+      inr (λ S. (demand_1.start_refused l C.supply None C.clock C.log C.log_begun C.begun C.begins nz).1.not_sound (rw C.from_start at S)))
       (eq_or_ne (begun_answer C.begun.answer).number 0)
   without (suc n) = ⊎_elim (λ e. rw e (without n)) (λ h. ⊎_elim (λ filling. inl (h.0 ∙ filling)) (λ unsound. absurd (unsound h.1)) (without n)) (next n)
 
@@ -115,8 +107,7 @@ module _ (l : TaskList) (C : CallsUnnamed l) where
       (sym (step_said (s n) (C.tables n) (C.clocks n) (C.reports n) (C.logs n) (C.logs_after n) (C.answers n) (C.stepped n)) ∙ e)
 
   no_one_by_11 : (n : ℕ) (table : List ℕ) → (runner_answer (who_of (s n) table)).number ≡ 11 → ⊥
-  unfolding who_of
-  no_one_by_11 n table e = who_not_11 (s n) table (without n) (told_number (who_refusal (s n) table) (running (s n) table) ∙ e)
+  no_one_by_11 n table e = who_not_11 (s n) table (without n) (sym (who_says (s n) table) ∙ e)
 
 pub no_mode_named : NoModeNamed
 no_mode_named = record { fills = fills; no_step_by_11 = no_step_by_11; no_one_by_11 = no_one_by_11 }

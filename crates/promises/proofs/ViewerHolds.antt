@@ -1,6 +1,6 @@
 -- What is promised of the viewer holds: the proof of the statement in Viewer. Reading and explaining are one law, of a file; what
 -- explaining adds rests on the one candidate, the needs that the run itself gives.
-use Rattle.std.specs.Prelude.{◌≡◌, Bool, true, false, ◌⊎◌, ◌↔◌, ℕ, zero, suc, ◌≤◌, ◌<◌, min, leb, eqb, take, replicate}
+use Rattle.std.specs.Prelude.{◌≡◌, Bool, true, false, ◌⊎◌, ◌↔◌, ℕ, zero, suc, ◌≤◌, ◌<◌, min, leb, eqb, take, replicate, Some, None, Ok, Err}
 use Rattle.std.proofs.Math.Path.{refl, sym, ap, subst}
 use Rattle.std.proofs.Common.{◌∙◌, true≢false, length-take-le, get_or-take, ext_get_or}
 use mathlib.Core.List.{List}
@@ -11,18 +11,17 @@ use Rattle.std.proofs.Math.ListN.{length, length-replicate}
 use borrow.Author.Tests.{le-leb, lt-leb, leb-true, leb-false, eq-eqb, ne_eqb, eqb-true, eqb-false}
 use Rattle.basis.specs.Answer.{Answer, refusal, none, ◌or_else◌, else_found, else_kept, passed_unless}
 use Rattle.basis.specs.Bytes.{at, overwrite, overwrite-length, overwrite_at}
-use Rattle.basis.specs.Choose.{choose, choose_yes, choose_no, bool_cases, both_true, both_false, below_suc, eq_or_ne}
+use Rattle.basis.specs.Choose.{choose, choose_yes, bool_cases, both_true, both_false, below_suc, eq_or_ne}
 use Rattle.basis.specs.Rules.{rule, Rules, no_more, ◌then◌, ◌and_then◌, Breaks, Refused as RefusedBy, GoesBy, goes_on, goes_then, goes_unless, plain_refuses, breaks_saying, saying_told}
 use Rattle.plan.specs.Plan.{Sound, Demand, filling, takes, table}
 use Rattle.needs.specs.Explained.{Explains}
 use Rattle.needs.specs.Candidate.{entry_by_released, released_within, only_candidate, jobs_within_cycle, whole_run_explained, table_explained}
 use Rattle.tasks.specs.declared.TaskList.{TaskList}
 use Rattle.tasks.specs.List.{plan_of}
+use Rattle.tasks.specs.Refusal.{refusal_answer}
 use Rattle.tasks.specs.Bounds.{cycle_of, job_sum, jobs_of}
 use Rattle.tasks.proofs.Kept.{plan_sound, cycle_pos, period_divides_cycle}
-use Rattle.verdict.specs.declared.Verdict.{Verdict}
-use Rattle.verdict.specs.declared.Verdict.TheVariants.{Accepted, Refused as Judged}
-use Rattle.verdict.specs.Verdict.{verdict_of, verdict_answer}
+use Rattle.verdict.specs.Verdict.{Verdict, verdict_of, verdict_answer}
 use Rattle.verdict.specs.Answers.{OnTimeAll}
 use Rattle.verdict.proofs.Told.{accepted_as}
 use Rattle.start.specs.Start.{mode_of}
@@ -30,9 +29,7 @@ use Rattle.run.specs.declared.Mode.TheVariants.{Filling}
 use Rattle.vcd.specs.Form.{vcd_text, OfRun}
 use Rattle.vcd.specs.OneRun.{one_run, of_one_run}
 use Rattle.vcd.specs.Beginnings.{longest_one}
-use Rattle.explain.specs.declared.Viewed.{Viewed}
-use Rattle.explain.specs.declared.Viewed.TheVariants.{Given, No, Refused}
-use Rattle.explain.specs.Seen.{viewed_answer, refused_by, AfterList, entries_to, run_number, unless_refused, Yes, NoNeeds, Explained}
+use Rattle.explain.specs.Seen.{Viewed, viewed_answer, run_refusal, refused_by, AfterList, entries_to, run_number, unless_run_refused, unless_refused, Yes, NoNeeds, Explained}
 use Rattle.output.specs.Output.{entries}
 use Rattle.viewer.specs.Viewer.{shown, WritesRun, Writes, NoForm, Of, ReadsRun, ReadsBack, ExplainsFile}
 use Rattle.promises.specs.Demand2.{judged_as}
@@ -45,8 +42,8 @@ use Rattle.promises.specs.Viewer.{no_form, not_the_cycle, entry_above, output_sh
 -- ---- after the list's own checks
 -- A refusal of the list as these calls give it.
 unfoldable pub as_viewed : Verdict → Viewed
-as_viewed (Accepted cycle jobs task margin) = No
-as_viewed (Judged number task margin reached period) = Refused number task margin reached period
+as_viewed (Ok a) = Ok None
+as_viewed (Err r) = Err r
 
 -- The list is accepted, and what comes next is said of its cycle and job count;
 pub record Passed (l : TaskList) (supply : ℕ) (Then : ℕ → ℕ → Type 0) : Type 0 where
@@ -64,8 +61,8 @@ pub record ByList (l : TaskList) (supply : ℕ) (old new : List ℕ) (r : Viewed
 module _ (l : TaskList) (supply : ℕ) (Then : ℕ → ℕ → Type 0) (old new : List ℕ) (r : Viewed) where
   by_list : (v : Verdict) → ((verdict_answer v).number ≡ 0 → ⊥) → AfterList v Then old new r → (r ≡ as_viewed v) × (viewed_answer r ≡ verdict_answer v) × (new ≡ old)
   unfolding AfterList verdict_answer viewed_answer as_viewed
-  by_list (Accepted cycle jobs task margin) nz A = absurd (nz refl)
-  by_list (Judged number task margin reached period) nz A = (A.0, ap viewed_answer A.0, A.1)
+  by_list (Ok a) nz A = absurd (nz refl)
+  by_list (Err r) nz A = (A.0, ap viewed_answer A.0, A.1)
 
   pub after_list : AfterList (verdict_of l supply) Then old new r → Passed l supply Then ⊎ ByList l supply old new r
   unfolding AfterList
@@ -146,6 +143,21 @@ by_number true true false = refl
 by_number true false c = refl
 by_number false b c = refl
 
+-- So is what an answer by that number says.
+viewed_by : (a b c : Bool) (count : ℕ) → viewed_answer (unless_refused (choose a (choose b (choose c 0 31) 30) 19) count) ≡ refusal (choose a (choose b (choose c 0 31) 30) 19) 0
+unfolding choose unless_refused unless_run_refused run_refusal viewed_answer refusal_answer none refusal
+viewed_by true true true count = refl
+viewed_by true true false count = refl
+viewed_by true false c count = refl
+viewed_by false b c count = refl
+
+viewed_refused : (a b c : Bool) → (◌≡◌ {A = ℕ} (choose a (choose b (choose c 0 31) 30) 19) 0 → ⊥) → viewed_answer (refused_by (choose a (choose b (choose c 0 31) 30) 19) 0) ≡ refusal (choose a (choose b (choose c 0 31) 30) 19) 0
+unfolding choose refused_by run_refusal viewed_answer refusal_answer refusal
+viewed_refused true true true nz = absurd (nz refl)
+viewed_refused true true false nz = refl
+viewed_refused true false c nz = refl
+viewed_refused false b c nz = refl
+
 -- A run that is not refused: as long as the cycle, no entry above the count, and room enough.
 record Fits (l : TaskList) (run : List ℕ) (needed room : ℕ) : Type 0 where
   whole : length run ≡ cycle_of l
@@ -167,6 +179,14 @@ module _ (l : TaskList) (run : List ℕ) (needed room : ℕ) where
   unfolding run_number
   fits_0 F = choose_yes _ _ _ (eq-eqb (length run) (cycle_of l) F.whole) ∙ choose_yes _ _ _ F.entries ∙ choose_yes _ _ _ (le-leb needed room F.enough)
 
+  number_viewed : (count : ℕ) → viewed_answer (unless_refused number count) ≡ refusal number 0
+  unfolding run_number
+  number_viewed = viewed_by (eqb (length run) (cycle_of l)) (entries_to l.count run (length run)) (leb needed room)
+
+  number_refused : (number ≡ 0 → ⊥) → viewed_answer (refused_by number 0) ≡ refusal number 0
+  unfolding run_number
+  number_refused = viewed_refused (eqb (length run) (cycle_of l)) (entries_to l.count run (length run)) (leb needed room)
+
   -- The number goes by 19, 30 and 31 of the one run that is looked at.
   module _ (IsIt : List ℕ → Type 0) (it : IsIt run) (only : (other : List ℕ) → IsIt other → other ≡ run) where
     run_goes : GoesBy (not_the_cycle l IsIt then entry_above l IsIt then output_short needed room then no_more) (refusal number 0)
@@ -183,26 +203,18 @@ record Checked (l : TaskList) (run : List ℕ) (needed : ℕ) (old new : List �
   answer_is : viewed_answer r ≡ refusal (number l run needed (length old)) 0
   kept : ((viewed_answer r).number ≡ 0 → ⊥) → new ≡ old
 
-viewed_by : (n count : ℕ) → viewed_answer (unless_refused n count) ≡ refusal n 0
-unfolding unless_refused viewed_answer refused_by none refusal
-viewed_by n count =
-    ⊎_elim
-    (λ (z : n ≡ 0). ap viewed_answer (choose_yes _ _ _ (eq-eqb n 0 z)) ∙ ap (λ (x : ℕ). refusal x 0) (sym z))
-    (λ (nz : n ≡ 0 → ⊥). ap viewed_answer (choose_no _ _ _ (ne_eqb n 0 nz)))
-    (eq_or_ne n 0)
-
 shown_refused : (r : Viewed) (f : ℕ → ℕ) (old : List ℕ) → ((viewed_answer r).number ≡ 0 → ⊥) → shown r f old ≡ old
 unfolding shown viewed_answer none refusal
-shown_refused (Given count) f old nz = absurd (nz refl)
-shown_refused No f old nz = refl
-shown_refused (Refused number task margin reached period) f old nz = refl
+shown_refused (Ok (Some count)) f old nz = absurd (nz refl)
+shown_refused (Ok None) f old nz = refl
+shown_refused (Err r) f old nz = refl
 
 module _ (l : TaskList) (run old new : List ℕ) (r : Viewed) where
   writes_checked : WritesRun l run old new r (cycle_of l) → Checked l run (length (vcd_text run)) old new r
-  writes_checked W = record { answer_is = ap viewed_answer W.answer ∙ viewed_by _ _; kept = λ nz. W.bytes ∙ shown_refused r _ old nz }
+  writes_checked W = record { answer_is = ap viewed_answer W.answer ∙ number_viewed l run _ _ _; kept = λ nz. W.bytes ∙ shown_refused r _ old nz }
 
   reads_checked : ReadsRun l old new r (cycle_of l) run → Checked l run (cycle_of l) old new r
-  reads_checked R = record { answer_is = ap viewed_answer R.answer ∙ viewed_by _ _; kept = λ nz. R.bytes ∙ shown_refused r _ old nz }
+  reads_checked R = record { answer_is = ap viewed_answer R.answer ∙ number_viewed l run _ _ _; kept = λ nz. R.bytes ∙ shown_refused r _ old nz }
 
   explained_checked : Explained l run old new r (cycle_of l) (jobs_of l) → Checked l run (jobs_of l) old new r
   unfolding viewed_answer refused_by none refusal
@@ -210,10 +222,10 @@ module _ (l : TaskList) (run old new : List ℕ) (r : Viewed) where
       ⊎_elim
       (λ (z : number l run (jobs_of l) (length old) ≡ 0).
       ⊎_elim
-      (λ (Y : Yes l run old new r). record { answer_is = accepted z (Given (jobs_of l)) Y.answer refl; kept = λ nz. absurd (nz (ap (λ (x : Viewed). (viewed_answer x).number) Y.answer)) })
-      (λ (N : NoNeeds l run old new r). record { answer_is = accepted z No N.answer refl; kept = λ _. N.bytes })
+      (λ (Y : Yes l run old new r). record { answer_is = accepted z (Ok (Some (jobs_of l))) Y.answer refl; kept = λ nz. absurd (nz (ap (λ (x : Viewed). (viewed_answer x).number) Y.answer)) })
+      (λ (N : NoNeeds l run old new r). record { answer_is = accepted z (Ok None) N.answer refl; kept = λ _. N.bytes })
       (E.said z))
-      (λ (nz : number l run (jobs_of l) (length old) ≡ 0 → ⊥). record { answer_is = ap viewed_answer (E.refused nz).0; kept = λ _. (E.refused nz).1 })
+      (λ (nz : number l run (jobs_of l) (length old) ≡ 0 → ⊥). record { answer_is = ap viewed_answer (E.refused nz).0 ∙ number_refused l run _ _ nz; kept = λ _. (E.refused nz).1 })
       (eq_or_ne (number l run (jobs_of l) (length old)) 0)
     where
       accepted : number l run (jobs_of l) (length old) ≡ 0 → (x : Viewed) → r ≡ x → viewed_answer x ≡ none → viewed_answer r ≡ refusal (number l run (jobs_of l) (length old)) 0
@@ -228,8 +240,8 @@ front_written text old n e room =
     ext_get_or 0 _ text (cut ∙ sym e)
     (λ i li. let below : i < n = omega (arith, li, cut) in get_or-take n (overwrite (at text) n old) i 0 below ∙ overwrite_at (at text) old 0 n i below (omega arith))
 
-given_same : (m count n : ℕ) → m ≡ 0 → Given n ≡ unless_refused m count → n ≡ count
-unfolding unless_refused
+given_same : (m count n : ℕ) → m ≡ 0 → Ok (Some n) ≡ unless_refused m count → n ≡ count
+unfolding unless_refused unless_run_refused
 given_same m count n z e = let same = e ∙ choose_yes _ _ _ (eq-eqb m 0 z) in cc
 
 module _ (l : TaskList) (supply : ℕ) (run old new : List ℕ) (r : Viewed) (W : Writes l supply run old new r) where
@@ -254,12 +266,12 @@ record WroteRun (l : TaskList) (supply : ℕ) (run old file : List ℕ) : Type 0
   run_fits : Fits l run (length (vcd_text run)) (length old)
   of_run : OfRun file run
 
-module _ (l : TaskList) (supply : ℕ) (run old new : List ℕ) (n : ℕ) (W : Writes l supply run old new (Given n)) where
+module _ (l : TaskList) (supply : ℕ) (run old new : List ℕ) (n : ℕ) (W : Writes l supply run old new (Ok (Some n))) where
   wrote_run : WroteRun l supply run old (take n new)
   unfolding Writes viewed_answer none refusal shown
   wrote_run =
-      let P = not_refused l supply (ToWrite l supply run old new (Given n) W) old new (Given n) W refl in
-      let z = sym (ap (λ (a : Answer). a.number) (writes_checked l run old new (Given n) P.next).answer_is) in
+      let P = not_refused l supply (ToWrite l supply run old new (Ok (Some n)) W) old new (Ok (Some n)) W refl in
+      let z = sym (ap (λ (a : Answer). a.number) (writes_checked l run old new (Ok (Some n)) P.next).answer_is) in
       let F = fits l run (length (vcd_text run)) (length old) z in
       let K = P.ok.keeps in
       record {
@@ -273,7 +285,7 @@ module _ (l : TaskList) (supply : ℕ) (run old new : List ℕ) (n : ℕ) (W : W
 
 -- ---- a file, read or explained
 no_form_goes : (file old new : List ℕ) (r : Viewed) (rs : Rules) → NoForm file old new r → GoesBy (no_form file then rs) (viewed_answer r)
-unfolding RefusedBy viewed_answer refused_by refusal
+unfolding RefusedBy viewed_answer refused_by run_refusal refusal_answer choose refusal
 no_form_goes file old new r rs N = record {
   only = λ nz. inl (subst (Breaks (no_form file)) (sym is) breaks);
   always = λ b R.
@@ -335,7 +347,7 @@ module _ (l : TaskList) (supply : ℕ) (file old new : List ℕ) (r : Viewed) (n
         (after_list l supply OfFile old new r A)
 
     file_accepted : (viewed_answer r).number ≡ 0 → FileRun l supply file needed (length old) (Said (cycle_of l) (jobs_of l))
-    unfolding viewed_answer refused_by refusal
+    unfolding viewed_answer refused_by run_refusal refusal_answer choose refusal
     file_accepted z =
         let P = not_refused l supply OfFile old new r A z in
         ⊎_elim
@@ -360,8 +372,8 @@ module _ (l : TaskList) (supply : ℕ) (file old new : List ℕ) (r : Viewed) (R
   read_refused = file_refused l supply file old new r (cycle_of l) (λ cycle jobs. ReadsRun l old new r cycle) (λ run. reads_checked l run old new r) R
 
   -- A file that is the form of a run that fits is read back into that run.
-  reads_run : (judged_as l supply).number ≡ 0 → (run : List ℕ) → OfRun file run → Fits l run (cycle_of l) (length old) → (r ≡ Given (cycle_of l)) × (take (cycle_of l) new ≡ run)
-  unfolding ReadsBack unless_refused shown
+  reads_run : (judged_as l supply).number ≡ 0 → (run : List ℕ) → OfRun file run → Fits l run (cycle_of l) (length old) → (r ≡ Ok (Some (cycle_of l))) × (take (cycle_of l) new ≡ run)
+  unfolding ReadsBack unless_refused unless_run_refused shown
   reads_run accepted run of F =
       ⊎_elim
       (λ (P : Passed l supply (λ cycle jobs. NoForm file old new r ⊎ Of file (ReadsRun l old new r cycle))).
@@ -416,7 +428,7 @@ module _ (l : TaskList) (supply : ℕ) (ok : OnTimeAll l supply (verdict_of l su
   unfolding jobs_of job_sum plan_of
   jobs_within = (jobs_within_cycle (plan_of l) sound (cycle_of l) divides ok.on_time (λ i k li. (ok.keeps.fits i li).runtime_from), ok.keeps.cycle_within)
 
-no_given : {n : ℕ} → No ≡ Given n → ⊥
+no_given : {n : ℕ} → ◌≡◌ {A = Viewed} (Ok None) (Ok (Some n)) → ⊥
 no_given e = let z : ◌≡◌ {A = ℕ} 0 1 = cc in omega arith
 
 module _ (l : TaskList) (supply : ℕ) (file old new : List ℕ) (r : Viewed) (E : ExplainsFile l supply file old new r) where
@@ -440,28 +452,28 @@ module _ (l : TaskList) (supply : ℕ) (file old new : List ℕ) (r : Viewed) (E
     yes_or_no : (run : List ℕ) → OfRun file run → Yes l run old new r ⊎ NoNeeds l run old new r
     yes_or_no run of = subst (λ (x : List ℕ). Yes l x old new r ⊎ NoNeeds l x old new r) (of_one_run file seen.run run seen.of_run of) (seen.said.said seen.number_0)
 
-    yes_exactly : (run : List ℕ) → OfRun file run → (r ≡ Given (jobs_of l)) ↔ ((need : Demand) × Explains (plan_of l) (cycle_of l) run need)
+    yes_exactly : (run : List ℕ) → OfRun file run → (r ≡ Ok (Some (jobs_of l))) ↔ ((need : Demand) × Explains (plan_of l) (cycle_of l) run need)
     yes_exactly run of =
         ⊎_elim
         (λ (Y : Yes l run old new r). (λ _. (Y.need, Y.explains), λ _. Y.answer))
         (λ (N : NoNeeds l run old new r). (λ e. absurd (no_given (sym N.answer ∙ e)), λ h. absurd (N.none_lead h.0 h.1)))
         (yes_or_no run of)
 
-    no_else : (r ≡ Given (jobs_of l) → ⊥) → (r ≡ No) × (new ≡ old)
+    no_else : (r ≡ Ok (Some (jobs_of l)) → ⊥) → (r ≡ Ok None) × (new ≡ old)
     no_else not_so =
         ⊎_elim
         (λ (Y : Yes l seen.run old new r). absurd (not_so Y.answer))
         (λ (N : NoNeeds l seen.run old new r). (N.answer, N.bytes))
         (yes_or_no seen.run seen.of_run)
 
-module _ (l : TaskList) (supply : ℕ) (file old new run : List ℕ) (n : ℕ) (E : ExplainsFile l supply file old new (Given n)) (of : OfRun file run) where
-  yes : Yes l run old new (Given n)
+module _ (l : TaskList) (supply : ℕ) (file old new run : List ℕ) (n : ℕ) (E : ExplainsFile l supply file old new (Ok (Some n))) (of : OfRun file run) where
+  yes : Yes l run old new (Ok (Some n))
   unfolding viewed_answer none refusal
-  yes = ⊎_elim (λ (Y : Yes l run old new (Given n)). Y) (λ (N : NoNeeds l run old new (Given n)). absurd (no_given (sym N.answer))) (yes_or_no l supply file old new (Given n) E refl run of)
+  yes = ⊎_elim (λ (Y : Yes l run old new (Ok (Some n))). Y) (λ (N : NoNeeds l run old new (Ok (Some n))). absurd (no_given (sym N.answer))) (yes_or_no l supply file old new (Ok (Some n)) E refl run of)
 
   accepted_list : OnTimeAll l supply (verdict_of l supply)
   unfolding viewed_answer none refusal
-  accepted_list = (seen l supply file old new (Given n) E refl).ok
+  accepted_list = (seen l supply file old new (Ok (Some n)) E refl).ok
 
   given_lead : (need : Demand) → Stand l need new → Explains (plan_of l) (cycle_of l) run need
   given_lead need S = explains_alike l supply accepted_list run yes.need need (λ i k li lk. sym (yes.needs.each i k li lk) ∙ S.each i k li lk) yes.explains

@@ -1,7 +1,7 @@
 -- The wrong programs of the paper, refuted: whatever answers keep the contracts, they are not those of a verdict that refuses all, of
 -- one verdict or table for all lists, of an invented margin or job count, of a step that does nothing, or of a first step that
 -- closes the whole cycle while later ones only count.
-use Rattle.std.specs.Prelude.{◌≡◌, List, ℕ, zero, suc, ◌≤◌, ◌<◌, ℤ, pos, nat_abs, length, get_or, replicate}
+use Rattle.std.specs.Prelude.{◌≡◌, List, ℕ, zero, suc, ◌≤◌, ◌<◌, ℤ, pos, nat_abs, length, get_or, replicate, Some}
 use Rattle.std.proofs.Math.Path.{sym}
 use Rattle.std.proofs.Common.{ap, ◌∙◌, arith}
 use Rattle.std.proofs.lemmas.List.{length-replicate}
@@ -10,10 +10,9 @@ use Rattle.tasks.specs.declared.Task.{Task}
 use Rattle.tasks.specs.declared.TaskList.{TaskList}
 use Rattle.tasks.specs.List.{list_of}
 use Rattle.tasks.specs.Bounds.{cycle_of}
-use Rattle.verdict.specs.declared.Verdict.{Verdict}
-use Rattle.verdict.specs.Verdict.{verdict_of, verdict_answer}
+use Rattle.verdict.specs.Verdict.{Verdict, verdict_of, verdict_answer}
 use Rattle.verdict.specs.Table.{tabled, Built}
-use Rattle.start.specs.declared.Asked.TheVariants.{Table}
+use Rattle.run.specs.declared.Mode.TheVariants.{Table}
 use Rattle.run.specs.declared.State.{State}
 use Rattle.starred.specs.Lists.{verdict, entries, accepted, late, A, B, C, E, G}
 use Rattle.starred.proofs.Starred.{starred}
@@ -115,12 +114,12 @@ module _ (l : TaskList) (run : FullRun l) where
 module _ (step : StepKept) where
   pub no_idle_step : ((s : State) (table : List ℕ) (clock report : ℕ) (log : List ℕ) → step.leaves s table clock report log ≡ log) → ⊥
   no_idle_step idle =
-      let run = run_on_a Table in
+      let run = run_on_a (Some Table) in
       not_all_idle (list_of A) run (λ p lp. (run.steps.stepped p lp).bytes ∙ sym (step.keeps (run.states p) run.tab _ _ (run.logs p)).bytes ∙ idle (run.states p) run.tab _ _ (run.logs p))
 
   pub no_step_for_all : ((s : State) (table : List ℕ) (clock report : ℕ) (log : List ℕ) → 0 < s.position → step.leaves s table clock report log ≡ log) → ⊥
   unfolding list_of A
   no_step_for_all idle =
-      let run = run_on_a Table in
+      let run = run_on_a (Some Table) in
       not_all_at_once (list_of A) run (omega arith) (λ p later lp.
       (run.steps.stepped p lp).bytes ∙ sym (step.keeps (run.states p) run.tab _ _ (run.logs p)).bytes ∙ idle (run.states p) run.tab _ _ (run.logs p) (omega (arith, (reached (list_of A) run p (omega arith)).position_is)))

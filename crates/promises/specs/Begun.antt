@@ -1,5 +1,5 @@
 -- What an accepted start gives: a sound state at slice 0 that carries the list's plan, and a log without a result.
-use Rattle.std.specs.Prelude.{◌≡◌, refl, List, ℕ, ◌+◌, ◌/◌, ◌≤◌, ◌<◌, ℤ, length, get_or, replicate}
+use Rattle.std.specs.Prelude.{◌≡◌, refl, List, ℕ, ◌+◌, ◌/◌, ◌≤◌, ◌<◌, length, get_or, replicate, Option, Result, Err}
 use Rattle.std.proofs.Math.Path.{sym, ap, ap₂, subst}
 use Rattle.std.proofs.Common.{◌∙◌, ⊎_elim, arith, lt-ltb, le-ltb}
 use Rattle.std.proofs.Math.Bool.{false, true≢false}
@@ -9,28 +9,26 @@ use Rattle.std.proofs.lemmas.List.{length-replicate, get_or-replicate}
 use Rattle.std.proofs.Math.ListN.{get_or-eq_default}
 use Rattle.basis.specs.Choose.{choose_yes, choose_no, le_or_lt}
 use Rattle.basis.specs.Bytes.{at, overwrite, overwrite-length, overwrite_at, overwrite_kept}
-use Rattle.basis.specs.Answer.{refusal, none}
+use Rattle.basis.specs.Answer.{Answer, refusal, none}
 use Rattle.plan.specs.Plan.{Demand, OnTimeUpTo, deadline, job, takes}
 use Rattle.plan.proofs.Run.{had_first_lem}
 use Rattle.plan.proofs.Progress.{nothing_before_release}
 use Rattle.tasks.specs.declared.Task.{Task}
 use Rattle.tasks.specs.declared.TaskList.{TaskList}
+use Rattle.tasks.specs.declared.refusals.Refusal.{Refusal}
 use Rattle.tasks.specs.List.{task_at, plan_of}
+use Rattle.tasks.specs.Refusal.{refusal_answer}
 use Rattle.tasks.specs.Bounds.{cycle_of, job_sum, jobs_of}
 use Rattle.tasks.specs.Kept.{KeepsBounds}
 use Rattle.tasks.proofs.Kept.{broken_tells, plan_sound, cycle_pos, period_divides_cycle}
-use Rattle.verdict.specs.declared.Verdict.{Verdict}
-use Rattle.verdict.specs.Verdict.{verdict_of, verdict_answer}
-use Rattle.start.specs.declared.Asked.{Asked}
+use Rattle.verdict.specs.Verdict.{Verdict, verdict_of, verdict_answer}
 use Rattle.run.specs.declared.Mode.{Mode}
 use Rattle.run.specs.declared.State.{State}
-use Rattle.start.specs.declared.Begun.{Begun}
 use Rattle.start.specs.declared.Started.{Started}
 use Rattle.run.specs.State.{Job, fresh, period_of, due_of, runtime_of, current_of, age_of, job_of, offset, job_count}
 use Rattle.run.specs.Sound.{SoundState}
 use Rattle.start.specs.Start.{mode_of, start_state, begun_of, begun_state, begun_log, Begins, begun_answer}
 use Rattle.run.specs.Places.{job_within}
-use Rattle.verdict.specs.declared.Verdict.TheVariants as verdict
 use Rattle.verdict.specs.Answers.{ByBounds, ForLateness, OnTimeAll}
 use Rattle.verdict.proofs.Told.{verdict_tells, accepted_as}
 use Rattle.promises.specs.Demand3.{place_of}
@@ -39,19 +37,19 @@ use Rattle.promises.specs.Reached.{fresh_has, Reached, byte_none}
 use Rattle.promises.specs.Earned.{byte_of, Honest}
 
 -- ---- an accepted start
-pub record Accepted (l : TaskList) (supply : ℕ) (asked : Asked) (clock : ℕ) (log log' : List ℕ) (r : Started) : Type 0 where
+pub record Accepted (l : TaskList) (supply : ℕ) (asked : Option Mode) (clock : ℕ) (log log' : List ℕ) (r : Started) : Type 0 where
   pub keeps : KeepsBounds l supply
   pub on_time : OnTimeUpTo (plan_of l) (plan_of l).runtime (cycle_of l)
   pub room : jobs_of l ≤ length log
   pub state_is : r.state ≡ start_state l (cycle_of l) (mode_of asked) clock
   pub log_is : log' ≡ overwrite (λ _. 0) (jobs_of l) log
 
-pub start_accepted : (l : TaskList) (supply : ℕ) (asked : Asked) (clock : ℕ) (log log' : List ℕ) (r : Started)
+pub start_accepted : (l : TaskList) (supply : ℕ) (asked : Option Mode) (clock : ℕ) (log log' : List ℕ) (r : Started)
     → Begins l supply asked clock log log' r → (begun_answer r.answer).number ≡ 0 → Accepted l supply asked clock log log' r
-unfolding begun_of begun_state begun_log begun_answer
+unfolding begun_of begun_state begun_log begun_answer refusal_answer refusal
 start_accepted l supply asked clock log log' r begins z =
     ⊎_elim
-    (λ (h : ByBounds l supply (verdict_of l supply)). never h.is (λ n. let T = broken_tells l supply h.number h.task h.reached h.period h.broken in T.some (sym T.number_is ∙ n)))
+    (λ (h : ByBounds l supply (verdict_of l supply)). never h.is (λ n. let T = broken_tells l supply h.reason h.broken in T.some (sym (ap (λ (a : Answer). a.number) T.says) ∙ n)))
     (⊎_elim
     (λ (h : ForLateness l supply (verdict_of l supply)). never h.is (λ n. omega arith))
     (λ (h : OnTimeAll l supply (verdict_of l supply)).
@@ -65,13 +63,13 @@ start_accepted l supply asked clock log log' r begins z =
       state_is = begins.state ∙ ap (λ (v : Verdict). begun_state l asked clock v (length log)) h.is ∙ choose_no _ _ _ (le-ltb (length log) (jobs_of l) le);
       log_is = begins.bytes ∙ ap (λ (v : Verdict). begun_log v log) h.is ∙ choose_no _ _ _ (le-ltb (length log) (jobs_of l) le);
     })
-    (λ (lt : length log < jobs_of l). absurd (omega (arith, ap (λ (x : Begun). (begun_answer x).number) (answer ∙ choose_yes _ _ _ (lt-ltb (length log) (jobs_of l) lt)))))
+    (λ (lt : length log < jobs_of l). absurd (omega (arith, ap (λ (x : Result (Unit {0}) Refusal). (begun_answer x).number) (answer ∙ choose_yes _ _ _ (lt-ltb (length log) (jobs_of l) lt)))))
     (le_or_lt (jobs_of l) (length log))))
     (verdict_tells l supply)
   where
     -- a refused list is refused by the start
-    never : {A : Type 0} {number task reached period : ℕ} {margin : ℤ} → verdict_of l supply ≡ verdict.Refused number task margin reached period → (number ≡ 0 → ⊥) → A
-    never e some = absurd (some (sym (ap (λ (x : Begun). (begun_answer x).number) (begins.answer ∙ ap (λ (v : Verdict). begun_of v (length log)) e)) ∙ z))
+    never : {A : Type 0} {reason : Refusal} → verdict_of l supply ≡ Err reason → ((refusal_answer reason).number ≡ 0 → ⊥) → A
+    never e some = absurd (some (sym (ap (λ (x : Result (Unit {0}) Refusal). (begun_answer x).number) (begins.answer ∙ ap (λ (v : Verdict). begun_of v (length log)) e)) ∙ z))
 
 -- ---- the jobs of a list
 -- Run-times are from one slice up, so that every job takes one at least.
@@ -204,9 +202,9 @@ module _ (l : TaskList) (supply : ℕ) (K : KeepsBounds l supply) (m : Mode) (cl
     }
 
 -- An accepted list starts, if the log has room for its jobs.
-pub accepted_starts : (l : TaskList) (supply : ℕ) (asked : Asked) (clock : ℕ) (log log' : List ℕ) (r : Started)
+pub accepted_starts : (l : TaskList) (supply : ℕ) (asked : Option Mode) (clock : ℕ) (log log' : List ℕ) (r : Started)
     → Begins l supply asked clock log log' r → (verdict_answer (verdict_of l supply)).number ≡ 0 → jobs_of l ≤ length log → (begun_answer r.answer).number ≡ 0
 unfolding begun_of begun_answer none refusal
 accepted_starts l supply asked clock log log' r begins z room =
-    ap (λ (x : Begun). (begun_answer x).number)
+    ap (λ (x : Result (Unit {0}) Refusal). (begun_answer x).number)
     (begins.answer ∙ ap (λ (v : Verdict). begun_of v (length log)) (accepted_as l supply z).is ∙ choose_no _ _ _ (le-ltb (length log) (jobs_of l) room))

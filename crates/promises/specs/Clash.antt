@@ -1,15 +1,14 @@
 -- Which two periods clash: what refusal 6 says beside the task, and that no other answer says it. ClashHolds has the proof.
-use Rattle.std.specs.Prelude.{◌≡◌, List, ℕ, suc, ◌≤◌, ◌<◌}
+use Rattle.std.specs.Prelude.{◌≡◌, List, ℕ, suc, ◌≤◌, ◌<◌, Option}
 use Rattle.std.specs.Int.{◌∣◌}
 use Rattle.basis.specs.Answer.{Answer}
 use Rattle.tasks.specs.declared.TaskList.{TaskList}
 use Rattle.tasks.specs.List.{task_at}
 use Rattle.tasks.specs.Euclid.{lcm_of}
 use Rattle.tasks.specs.Bounds.{bounds_of, bounds_answer}
-use Rattle.verdict.specs.declared.Verdict.{Verdict}
-use Rattle.verdict.specs.Verdict.{verdict_of, verdict_answer}
+use Rattle.verdict.specs.Verdict.{Verdict, verdict_of, verdict_answer}
 use Rattle.verdict.specs.Table.{Built}
-use Rattle.start.specs.declared.Asked.{Asked}
+use Rattle.run.specs.declared.Mode.{Mode}
 use Rattle.start.specs.declared.Started.{Started}
 use Rattle.start.specs.Start.{Begins, begun_answer}
 
@@ -44,4 +43,4 @@ pub record Clash : Type 0 where
   pub bounds : (l : TaskList) (supply : ℕ) → Explains l (bounds_answer (bounds_of l supply))
   pub judge : (l : TaskList) (supply : ℕ) → Explains l (verdict_answer (verdict_of l supply))
   pub build : (l : TaskList) (supply : ℕ) (old new : List ℕ) (v : Verdict) → Built l supply old new v → Explains l (verdict_answer v)
-  pub start : (l : TaskList) (supply : ℕ) (asked : Asked) (clock : ℕ) (log log' : List ℕ) (r : Started) → Begins l supply asked clock log log' r → Explains l (begun_answer r.answer)
+  pub start : (l : TaskList) (supply : ℕ) (asked : Option Mode) (clock : ℕ) (log log' : List ℕ) (r : Started) → Begins l supply asked clock log log' r → Explains l (begun_answer r.answer)

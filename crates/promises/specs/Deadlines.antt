@@ -1,6 +1,6 @@
 -- What deadlines leave as it was: a list whose deadlines are its periods is judged, put in a table, asked about and run as the rules
 -- paper has it, which knows no deadlines. DeadlinesHold has the proof.
-use Rattle.std.specs.Prelude.{◌≡◌, false, not, List, ℕ, suc, ◌≤◌, ◌<◌, ◌↔◌, eqb, ℤ, pos}
+use Rattle.std.specs.Prelude.{◌≡◌, false, not, List, ℕ, suc, ◌≤◌, ◌<◌, ◌↔◌, eqb, Result, Ok, Err}
 use Rattle.std.specs.Int.{◌∣◌}
 use Rattle.basis.specs.Choose.{choose, within}
 use Rattle.basis.specs.Bytes.{overwrite}
@@ -8,15 +8,14 @@ use Rattle.basis.specs.Answer.{Answer, refusal, none, ◌or_else◌, first_found
 use Rattle.plan.specs.Plan.{Plan, table}
 use Rattle.plan.specs.Points.{first_without}
 use Rattle.tasks.specs.declared.TaskList.{TaskList}
+use Rattle.tasks.specs.declared.refusals.Refusal.{Refusal}
 use Rattle.tasks.specs.List.{task_at, plan_of}
+use Rattle.tasks.specs.Refusal.{refusal_answer, bound_refusal}
 use Rattle.tasks.specs.Bounds.{of_count, of_memory, of_cycle, cycle_of, jobs_of}
-use Rattle.quick.specs.declared.Quick.{Quick}
-use Rattle.quick.specs.declared.Quick.TheVariants as quick
 use Rattle.quick.specs.Quick.{tried, quick_of}
-use Rattle.verdict.specs.declared.Verdict.{Verdict}
-use Rattle.verdict.specs.declared.Verdict.TheVariants.{Accepted, Refused}
+use Rattle.verdict.specs.declared.Accepted.{Accepted}
 use Rattle.verdict.specs.Lateness.{lateness}
-use Rattle.verdict.specs.Verdict.{judged, verdict_of}
+use Rattle.verdict.specs.Verdict.{Verdict, judged, verdict_of}
 use Rattle.verdict.specs.Table.{Built}
 use Rattle.run.specs.declared.State.{State}
 use Rattle.run.specs.State.{fresh, period_of, due_of, runtime_of, key_of, current_of, job_of, deadline_next, release_next}
@@ -53,13 +52,13 @@ unfoldable pub verdict_before : TaskList → ℕ → Verdict
 verdict_before l supply =
     choose (eqb (found_before l supply).number 0)
     (judged (rate_monotonic l) (cycle_of l) (jobs_of l) (lateness (rate_monotonic l) (cycle_of l)))
-    (Refused (found_before l supply).number (found_before l supply).task (pos 0) (found_before l supply).reached (found_before l supply).period)
+    (Err (bound_refusal (found_before l supply)))
 
-unfoldable pub quick_before : TaskList → ℕ → Quick
+unfoldable pub quick_before : TaskList → ℕ → Result (Unit {0}) Refusal
 quick_before l supply =
     choose (eqb (found_before l supply).number 0)
     (tried (first_without (rate_monotonic l)))
-    (quick.Refused (found_before l supply).number (found_before l supply).task)
+    (Err (bound_refusal (found_before l supply)))
 
 -- A state is sound: each period from 1 to 4,096 and dividing the cycle; each run-time from 1 to its period; slices used at most the
 -- run-time, and below it unless the job has ended.
@@ -85,11 +84,13 @@ abbrev pub StateAtPeriods : State → Type 0
 StateAtPeriods s = (i : ℕ) → due_of s i ≡ period_of s i
 
 pub record Deadlines : Type 0 where
-  -- Of such a list the plan is the rate-monotonic one; the verdict, the quick answer and the table are those of the rules paper.
+  -- Of such a list the plan is the rate-monotonic one; the verdict, the quick answer and the table are those of the rules paper, and
+  -- a refusal by its bounds says what is found there.
   pub plan_as_before : (l : TaskList) → AtPeriods l → plan_of l ≡ rate_monotonic l
   pub verdict_as_before : (l : TaskList) → AtPeriods l → (supply : ℕ) → verdict_of l supply ≡ verdict_before l supply
   pub quick_as_before : (l : TaskList) → AtPeriods l → (supply : ℕ) → quick_of l supply ≡ quick_before l supply
-  pub table_as_before : (l : TaskList) → AtPeriods l → (supply : ℕ) (old new : List ℕ) (cycle jobs task : ℕ) (margin : ℤ) → Built l supply old new (Accepted cycle jobs task margin) → new ≡ overwrite (table (rate_monotonic l)) cycle old
+  pub table_as_before : (l : TaskList) → AtPeriods l → (supply : ℕ) (old new : List ℕ) (a : Accepted) → Built l supply old new (Ok a) → new ≡ overwrite (table (rate_monotonic l)) a.cycle old
+  pub said_as_before : (l : TaskList) → AtPeriods l → (supply : ℕ) → ((found_before l supply).number ≡ 0 → ⊥) → refusal_answer (bound_refusal (found_before l supply)) ≡ found_before l supply
   -- Of such a state soundness is as it was; rank goes by the period; late is who has not ended at the next release, where a fresh job
   -- begins.
   pub sound_as_before : (s : State) → StateAtPeriods s → SoundState s ↔ SoundBefore s

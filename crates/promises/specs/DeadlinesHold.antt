@@ -1,6 +1,6 @@
 -- Lists and states whose deadlines are the periods are as they were.
-use Rattle.std.specs.Prelude.{◌≡◌, true, false, not, ◌||◌, List, ◌↔◌, ℕ, suc, ◌≤◌, ◌<◌, ℤ, pos}
-use Rattle.std.proofs.Math.Path.{sym, ap}
+use Rattle.std.specs.Prelude.{◌≡◌, true, false, not, ◌||◌, List, ◌↔◌, ℕ, suc, ◌≤◌, ◌<◌, Ok, Err}
+use Rattle.std.proofs.Math.Path.{sym, ap, subst}
 use Rattle.std.proofs.Common.{◌∙◌, arith}
 use Rattle.std.proofs.Math.Bool.{or-false}
 use Rattle.std.proofs.Math.Logic.{⊎_elim}
@@ -14,10 +14,11 @@ use Rattle.plan.specs.Plan.{Plan, table}
 use Rattle.plan.specs.Points.{first_without}
 use Rattle.tasks.specs.declared.TaskList.{TaskList}
 use Rattle.tasks.specs.List.{task_at, plan_of}
+use Rattle.tasks.specs.Refusal.{bound_refusal, unless_broken}
 use Rattle.tasks.specs.Bounds.{of_count, of_numbers, of_task, of_memory, of_cycle, found, answer, bounds_of, cycle_of, jobs_of}
-use Rattle.quick.specs.declared.Quick.TheVariants as quick
 use Rattle.quick.specs.Quick.{tried, quick_from, quick_of}
-use Rattle.verdict.specs.declared.Verdict.TheVariants.{Accepted, Refused}
+use Rattle.tasks.proofs.Kept.{Said, found_said}
+use Rattle.verdict.specs.declared.Accepted.{Accepted}
 use Rattle.verdict.specs.Lateness.{lateness}
 use Rattle.verdict.specs.Verdict.{judged, verdict_from, verdict_of}
 use Rattle.verdict.specs.Table.{tabled, Built}
@@ -64,26 +65,29 @@ module _ (l : TaskList) (at : AtPeriods l) where
       or_else first_found (of_memory l.tasks supply) l.count
       or_else first_found (of_cycle l.tasks) l.count
 
+  said_as_before : (supply : ℕ) → Said (found_before l supply)
+  said_as_before supply = subst Said (found_as_before supply) (found_said l supply)
+
   -- the bounds' answer by what is found
   bounds_as_before : (supply : ℕ) → bounds_of l supply ≡ answer (found_before l supply) (cycle_of l) (jobs_of l)
   unfolding bounds_of
   bounds_as_before supply = ap (λ (f : Answer). answer f (cycle_of l) (jobs_of l)) (found_as_before supply)
 
   verdict_as_before : (supply : ℕ) → verdict_of l supply ≡ verdict_before l supply
-  unfolding verdict_of verdict_from verdict_before answer
+  unfolding verdict_of verdict_from verdict_before answer unless_broken
   verdict_as_before supply =
       ap (verdict_from l) (bounds_as_before supply) ∙ of_choice (verdict_from l) (eqb (found_before l supply).number 0) _ _
-      ∙ ap (λ (P : Plan). choose (eqb (found_before l supply).number 0) (judged P (cycle_of l) (jobs_of l) (lateness P (cycle_of l))) (Refused (found_before l supply).number (found_before l supply).task (pos 0) (found_before l supply).reached (found_before l supply).period)) plan_as_before
+      ∙ ap (λ (P : Plan). choose (eqb (found_before l supply).number 0) (judged P (cycle_of l) (jobs_of l) (lateness P (cycle_of l))) (Err (bound_refusal (found_before l supply)))) plan_as_before
 
   quick_as_before : (supply : ℕ) → quick_of l supply ≡ quick_before l supply
-  unfolding quick_of quick_from quick_before answer
+  unfolding quick_of quick_from quick_before answer unless_broken
   quick_as_before supply =
       ap (quick_from l) (bounds_as_before supply) ∙ of_choice (quick_from l) (eqb (found_before l supply).number 0) _ _
-      ∙ ap (λ (P : Plan). choose (eqb (found_before l supply).number 0) (tried (first_without P)) (quick.Refused (found_before l supply).number (found_before l supply).task)) plan_as_before
+      ∙ ap (λ (P : Plan). choose (eqb (found_before l supply).number 0) (tried (first_without P)) (Err (bound_refusal (found_before l supply)))) plan_as_before
 
-  table_as_before : (supply : ℕ) (old new : List ℕ) (cycle jobs task : ℕ) (margin : ℤ) → Built l supply old new (Accepted cycle jobs task margin) → new ≡ overwrite (table (rate_monotonic l)) cycle old
+  table_as_before : (supply : ℕ) (old new : List ℕ) (a : Accepted) → Built l supply old new (Ok a) → new ≡ overwrite (table (rate_monotonic l)) a.cycle old
   unfolding tabled
-  table_as_before supply old new cycle jobs task margin B = B.bytes ∙ ap (λ (P : Plan). overwrite (table P) cycle old) plan_as_before
+  table_as_before supply old new a B = B.bytes ∙ ap (λ (P : Plan). overwrite (table P) a.cycle old) plan_as_before
 
 -- ---- states
 module _ (s : State) (at : StateAtPeriods s) where
@@ -149,6 +153,7 @@ deadlines_hold = record {
   verdict_as_before = verdict_as_before;
   quick_as_before = quick_as_before;
   table_as_before = table_as_before;
+  said_as_before = said_as_before;
   sound_as_before = sound_as_before;
   rank_as_before = λ s at i k. at i;
   late_as_before = late_as_before;

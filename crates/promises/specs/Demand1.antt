@@ -1,7 +1,7 @@
 -- Demand 1, the statement: what breaks a rule is refused by its number, in a fixed order, and after a refusal table, log and state
 -- hold what they held before; what is not refused is done as the rules say. Demand1Holds has the proof. (That every input gets an
 -- answer is that no public function has a requires. What an accepted verdict and its table are is demand 2.)
-use Rattle.std.specs.Prelude.{◌≡◌, true, false, List, ◌↔◌, ℕ, suc, ◌+◌, ◌*◌, ◌≤◌, ◌<◌, eqb, length, get_or}
+use Rattle.std.specs.Prelude.{◌≡◌, true, false, List, ◌↔◌, ℕ, suc, ◌+◌, ◌*◌, ◌≤◌, ◌<◌, eqb, length, get_or, Option, Some, None}
 use Rattle.basis.specs.Bytes.{at}
 use Rattle.basis.specs.Choose.{choose}
 use Rattle.basis.specs.Slices.{ceil}
@@ -9,11 +9,9 @@ use Rattle.basis.specs.Rules.{GoesBy, no_more, ◌then◌}
 use Rattle.tasks.specs.declared.TaskList.{TaskList}
 use Rattle.tasks.specs.List.{task_at}
 use Rattle.tasks.specs.Bounds.{bounds_of, bounds_answer, cycle_of, jobs_of}
-use Rattle.verdict.specs.declared.Verdict.{Verdict}
-use Rattle.verdict.specs.Verdict.{verdict_of, verdict_answer}
+use Rattle.verdict.specs.Verdict.{Verdict, verdict_of, verdict_answer}
 use Rattle.verdict.specs.Table.{Built}
-use Rattle.start.specs.declared.Asked.{Asked}
-use Rattle.start.specs.declared.Asked.TheVariants as mode-asked
+use Rattle.run.specs.declared.Mode.{Mode}
 use Rattle.start.specs.declared.Started.{Started}
 use Rattle.start.specs.Start.{Begins, begun_answer}
 use Rattle.run.specs.declared.Mode.TheVariants as mode
@@ -24,7 +22,6 @@ use Rattle.run.specs.Sound.{SoundState}
 use Rattle.run.specs.StateAfter.{HandedOn, Room}
 use Rattle.run.specs.Who.{running, who_of, runner_answer}
 use Rattle.run.specs.Step.{Stepped, closed_answer}
-use Rattle.units.specs.declared.Slices.TheVariants as slices
 use Rattle.units.specs.Conversion.{runtime_slices, period_slices, slices_of, slices_answer, deadline_slices}
 use Rattle.units.specs.Laws.{Fewest, Latest}
 use Rattle.readings.specs.declared.Entry.{Entry}
@@ -51,14 +48,14 @@ pub record NoRun (s : State) : Type 0 where
 
 -- What an accepted start gives: the list's tasks, every job fresh, slice 0, the mode asked for (none named: filling) and the
 -- clock reading; places beyond the task count are 0, with no job ended. The first job-count bytes of the log are 0, the others stay.
-pub record BegunRun (l : TaskList) (asked : Asked) (clock : ℕ) (log log' : List ℕ) (s : State) : Type 0 where
+pub record BegunRun (l : TaskList) (asked : Option Mode) (clock : ℕ) (log log' : List ℕ) (s : State) : Type 0 where
   pub count_is : s.count ≡ l.count
   pub cycle_is : s.cycle ≡ cycle_of l
   pub position_0 : s.position ≡ 0
   pub clock_is : s.clock ≡ clock
-  pub filling_asked : asked ≡ mode-asked.Filling → s.mode ≡ mode.Filling
-  pub table_asked : asked ≡ mode-asked.Table → s.mode ≡ mode.Table
-  pub none_named : asked ≡ mode-asked.Unnamed → s.mode ≡ mode.Filling
+  pub filling_asked : asked ≡ Some mode.Filling → s.mode ≡ mode.Filling
+  pub table_asked : asked ≡ Some mode.Table → s.mode ≡ mode.Table
+  pub none_named : asked ≡ None → s.mode ≡ mode.Filling
   pub periods_are : (i : ℕ) → i < l.count → period_of s i ≡ (task_at l.tasks i).period
   pub deadlines_are : (i : ℕ) → i < l.count → due_of s i ≡ (task_at l.tasks i).deadline
   pub runtimes_are : (i k : ℕ) → i < l.count → runtime_of s i k ≡ (task_at l.tasks i).runtime
@@ -125,11 +122,11 @@ pub record Demand1 : Type 0 where
   pub build : (l : TaskList) (supply : ℕ) (old new : List ℕ) (v : Verdict) → Built l supply old new v → GoesBy (build_rules l supply (length old)) (verdict_answer v)
   pub build_refused : (l : TaskList) (supply : ℕ) (old new : List ℕ) (v : Verdict) → Built l supply old new v → ((verdict_answer v).number ≡ 0 → ⊥) → new ≡ old
   -- A start: 1 to 7 and 20, then 12; refused, it writes nothing and gives the state of no run.
-  pub start : (l : TaskList) (supply : ℕ) (asked : Asked) (clock : ℕ) (log log' : List ℕ) (r : Started)
+  pub start : (l : TaskList) (supply : ℕ) (asked : Option Mode) (clock : ℕ) (log log' : List ℕ) (r : Started)
       → Begins l supply asked clock log log' r → GoesBy (start_rules l supply (length log)) (begun_answer r.answer)
-  pub start_refused : (l : TaskList) (supply : ℕ) (asked : Asked) (clock : ℕ) (log log' : List ℕ) (r : Started)
+  pub start_refused : (l : TaskList) (supply : ℕ) (asked : Option Mode) (clock : ℕ) (log log' : List ℕ) (r : Started)
       → Begins l supply asked clock log log' r → ((begun_answer r.answer).number ≡ 0 → ⊥) → (log' ≡ log) × NoRun r.state
-  pub start_begun : (l : TaskList) (supply : ℕ) (asked : Asked) (clock : ℕ) (log log' : List ℕ) (r : Started)
+  pub start_begun : (l : TaskList) (supply : ℕ) (asked : Option Mode) (clock : ℕ) (log log' : List ℕ) (r : Started)
       → Begins l supply asked clock log log' r → (begun_answer r.answer).number ≡ 0 → BegunRun l asked clock log log' r.state
   -- Asking who runs: 9 to 11; refused, task 0.
   pub who : (s : State) (table : List ℕ) → GoesBy (who_rules s table) (runner_answer (who_of s table))
@@ -151,7 +148,7 @@ pub record Demand1 : Type 0 where
   pub deadline : (micros slice : ℕ) → GoesBy (no_length slice then no_more) (slices_answer (deadline_slices micros slice))
   pub runtime_fewest : (micros slice tick : ℕ) → tick < slice → Fewest micros slice tick (slices_of (runtime_slices micros slice tick))
   pub larger_tick_no_fewer : (micros slice tick tick' : ℕ) → tick ≤ tick' → tick' < slice → slices_of (runtime_slices micros slice tick) ≤ slices_of (runtime_slices micros slice tick')
-  pub without_tick : (micros slice : ℕ) → runtime_slices micros slice 0 ≡ choose (eqb slice 0) slices.Refused (slices.Count (ceil micros slice))
+  pub without_tick : (micros slice : ℕ) → runtime_slices micros slice 0 ≡ choose (eqb slice 0) None (Some (ceil micros slice))
   pub period_exact : (n slice : ℕ) → 0 < slice → slices_of (period_slices (n * slice) slice) ≡ n
   pub deadline_latest : (micros slice : ℕ) → 0 < slice → Latest micros slice (slices_of (deadline_slices micros slice))
   -- The bench's task from microseconds: what the conversions give, and 0 for what they refuse.

@@ -9,9 +9,8 @@ use Rattle.tasks.specs.declared.TaskList.{TaskList}
 use Rattle.tasks.specs.List.{plan_of}
 use Rattle.tasks.specs.Bounds.{cycle_of, jobs_of}
 use Rattle.tasks.specs.Kept.{KeepsBounds}
-use Rattle.verdict.specs.declared.Verdict.{Verdict}
 use Rattle.verdict.specs.Margin.{first_end}
-use Rattle.verdict.specs.Verdict.{verdict_of, verdict_answer}
+use Rattle.verdict.specs.Verdict.{Verdict, verdict_of, verdict_answer}
 use Rattle.verdict.specs.Table.{Built}
 
 -- The task that a refusal for lateness names, and its first deadline. No deadline before is missed, and no task that misses one

@@ -1,5 +1,5 @@
 -- Demand 2 holds: the proof of the statement in Demand2.
-use Rattle.std.specs.Prelude.{◌≡◌, refl, false, List, ◌↔◌, eqb, leb, ℤ, negsuc, get_or}
+use Rattle.std.specs.Prelude.{◌≡◌, refl, false, List, ◌↔◌, eqb, leb, ℤ, negsuc, get_or, Ok, Err}
 use Rattle.std.proofs.Common.{sym, subst, ◌∙◌, zero-add, eq-eqb, lt-ltb, le-ltb, leb-true, leb-false}
 use Rattle.std.proofs.Math.Path.{ap}
 use Rattle.std.proofs.Math.Logic.{⊎_elim}
@@ -8,6 +8,7 @@ use native.Mathlib.Omega.{arith}
 use Rattle.std.proofs.Math.Nat.{zero-mul, mul_comm, sub_self, suc_inj, mod-eq_of_lt, div-eq_of_lt}
 use Rattle.std.proofs.Math.IntN.{sub_ℕ}
 use Rattle.std.proofs.Math.ListN.{length}
+use Rattle.basis.specs.Answer.{refusal}
 use Rattle.basis.specs.Choose.{choose_yes, choose_no, le_or_lt}
 use Rattle.basis.specs.Sum.{sum, sum_ext, sum_same}
 use Rattle.plan.proofs.Counting.{entries_in_cycle}
@@ -19,17 +20,15 @@ use Rattle.plan.proofs.Rank.{first_law, not_before_key, not_before_place}
 use Rattle.plan.specs.ExactTest.{AllPass, FirstFailing}
 use Rattle.plan.proofs.ExactTest.{test_exact_up_to, late_has_first_failing, first_failing_late, first_failing_earliest}
 use Rattle.tasks.specs.declared.TaskList.{TaskList}
-use Rattle.tasks.specs.declared.Bounds.TheVariants.{Kept, Broken}
 use Rattle.tasks.specs.List.{plan_of}
-use Rattle.tasks.specs.Bounds.{cycle_of, jobs_of}
+use Rattle.tasks.specs.Refusal.{refusal_answer}
+use Rattle.tasks.specs.Bounds.{cycle_of}
 use Rattle.tasks.specs.Kept.{KeepsBounds}
 use Rattle.tasks.proofs.Kept.{bounds_kept, plan_sound, plan_monotonic, period_within_cycle, period_divides_cycle}
-use Rattle.verdict.specs.declared.Verdict.{Verdict}
-use Rattle.verdict.specs.declared.Verdict.TheVariants.{Accepted, Refused}
 use Rattle.verdict.specs.Lateness.{received, missing, missed_at}
 use Rattle.verdict.specs.Margin.{margin, first_end, tightest}
 use Rattle.verdict.specs.Tightest.{Tightest, tightest_law, no_smaller, no_better}
-use Rattle.verdict.specs.Verdict.{verdict_of, verdict_answer}
+use Rattle.verdict.specs.Verdict.{Verdict, verdict_of, verdict_answer}
 use Rattle.basis.specs.Signed.{zero_less}
 use Rattle.verdict.specs.Answers.{ByBounds, ForLateness, OnTimeAll}
 use Rattle.verdict.proofs.Told.{on_time_accepted, verdict_tells, accepted_as, below_zero}
@@ -41,13 +40,13 @@ use Rattle.promises.specs.Demand2.{FirstLate, AcceptedAs, EndsAt, TableOf, Deman
 module _ (l : TaskList) (supply : ℕ) (K : KeepsBounds l supply) where
   pub not_by_bounds : {A : Type 0} → ByBounds l supply (verdict_of l supply) → A
   not_by_bounds h =
-      let other : Kept (cycle_of l) (jobs_of l) ≡ Broken h.number h.task h.reached h.period = sym (bounds_kept l supply K) ∙ h.broken in
+      let other = sym (bounds_kept l supply K) ∙ h.broken in
       let z : ◌≡◌ {A = ℕ} 0 1 = cc in
       absurd (omega arith)
 
   -- A list that breaks no bound is accepted exactly if the slice rule gives every job of the cycle its run-time before its deadline,
   pub accepted_on_time : ((verdict_answer (verdict_of l supply)).number ≡ 0) ↔ OnTimeUpTo (plan_of l) (plan_of l).runtime (cycle_of l)
-  unfolding verdict_answer
+  unfolding verdict_answer refusal_answer
   accepted_on_time = (
     λ z.
         ⊎_elim not_by_bounds
@@ -187,7 +186,7 @@ module _ (P : Plan) (monotonic : Monotonic P) (n i short : ℕ) (E : EarliestMis
 -- `below-zero` of the verdict's Answers.)
 pub late_named : (l : TaskList) (supply : ℕ) → KeepsBounds l supply → (verdict_answer (verdict_of l supply)).number ≡ 7
     → FirstLate (plan_of l) (verdict_answer (verdict_of l supply)).task (verdict_answer (verdict_of l supply)).margin
-unfolding verdict_answer
+unfolding verdict_answer refusal_answer
 late_named l supply K seven =
     ⊎_elim (not_by_bounds l supply K)
     (⊎_elim
@@ -239,12 +238,12 @@ unfolding verdict_answer fitted
 list_accepted l supply old new v built z = go (verdict_of l supply) refl
   where
     go : (w : Verdict) → verdict_of l supply ≡ w → (verdict_answer (verdict_of l supply)).number ≡ 0
-    go (Accepted c j t m) q = ap (λ (x : Verdict). (verdict_answer x).number) q
-    go (Refused n t m r p) q = ap (λ (x : Verdict). (verdict_answer x).number) q ∙ sym (ap (λ (x : Verdict). (verdict_answer x).number) (built.answer ∙ ap (λ (x : Verdict). fitted x (length old)) q)) ∙ z
+    go (Ok a) q = ap (λ (x : Verdict). (verdict_answer x).number) q
+    go (Err r) q = ap (λ (x : Verdict). (verdict_answer x).number) q ∙ sym (ap (λ (x : Verdict). (verdict_answer x).number) (built.answer ∙ ap (λ (x : Verdict). fitted x (length old)) q)) ∙ z
 
 module _ (l : TaskList) (supply : ℕ) (K : KeepsBounds l supply) (old new : List ℕ) (v : Verdict) (built : Built l supply old new v) where
   built_as : (verdict_answer v).number ≡ 0 → (cycle_of l ≤ length old) × (new ≡ overwrite (table (plan_of l)) (cycle_of l) old)
-  unfolding verdict_answer fitted tabled
+  unfolding verdict_answer refusal_answer refusal fitted tabled
   built_as z =
       let e = (accepted_as l supply (list_accepted l supply old new v built z)).is in
       let answer = built.answer ∙ ap (λ (x : Verdict). fitted x (length old)) e in

@@ -1,13 +1,13 @@
 -- Demand 3, the statement, about the contracts of start and step; Demand3Holds has the proof. It speaks of steps that are accepted,
 -- each given the state that the start or the step before it gave, each lent the same log, and the list's own table.
-use Rattle.std.specs.Prelude.{◌≡◌, List, Bool, not, ℕ, suc, ◌+◌, ◌/◌, ◌≤◌, ◌<◌, eqb, leb, length, get_or}
+use Rattle.std.specs.Prelude.{◌≡◌, List, Bool, not, ℕ, suc, ◌+◌, ◌/◌, ◌≤◌, ◌<◌, eqb, leb, length, get_or, Option}
 use Rattle.basis.specs.Choose.{choose}
 use Rattle.basis.specs.Least.{least}
 use Rattle.plan.specs.Plan.{Plan, Demand, table}
 use Rattle.tasks.specs.declared.TaskList.{TaskList}
 use Rattle.tasks.specs.List.{plan_of}
 use Rattle.tasks.specs.Bounds.{cycle_of, job_sum, jobs_of}
-use Rattle.start.specs.declared.Asked.{Asked}
+use Rattle.run.specs.declared.Mode.{Mode}
 use Rattle.start.specs.declared.Started.{Started}
 use Rattle.start.specs.Start.{mode_of, Begins, begun_answer}
 use Rattle.run.specs.declared.Mode.TheVariants.{Table, Filling}
@@ -32,7 +32,7 @@ pub record Own (P : Plan) (cycle : ℕ) (tab : List ℕ) : Type 0 where
 pub record FullRun (l : TaskList) : Type 0 where
   -- what the caller brings: any needs from one slice up, and the list's own table
   pub supply : ℕ
-  pub asked : Asked
+  pub asked : Option Mode
   pub clock : ℕ
   pub need : Demand
   pub tab : List ℕ

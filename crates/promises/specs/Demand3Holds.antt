@@ -1,5 +1,5 @@
 -- Demand 3 holds: every slice of a full run is where the plan's run has brought it, so the log and the ends are the plan's.
-use Rattle.std.specs.Prelude.{◌≡◌, List, Bool, true, ℕ, zero, suc, ◌+◌, ◌*◌, ◌/◌, ◌≤◌, ◌<◌, leb}
+use Rattle.std.specs.Prelude.{◌≡◌, List, Bool, true, ℕ, zero, suc, ◌+◌, ◌*◌, ◌/◌, ◌≤◌, ◌<◌, leb, Result, Ok}
 use Rattle.std.proofs.Math.Path.{refl, ap}
 use Rattle.std.proofs.Common.{sym, ◌∙◌}
 use Rattle.std.proofs.Math.Bool.{not, true≢false}
@@ -22,7 +22,7 @@ use Rattle.tasks.specs.Bounds.{cycle_of, jobs_of}
 use Rattle.tasks.proofs.Kept.{plan_sound, cycle_pos, period_divides_cycle}
 use Rattle.run.specs.declared.Mode.TheVariants.{Table, Filling}
 use Rattle.run.specs.declared.State.{State}
-use Rattle.run.specs.declared.Closed.{Closed}
+use Rattle.run.specs.declared.Refusal.{Refusal}
 use Rattle.run.specs.State.{current_of, offset, job_count}
 use Rattle.run.specs.Who.{running}
 use Rattle.run.specs.Step.{closed_answer}
@@ -50,7 +50,7 @@ module _ (l : TaskList) (run : FullRun l) where
   abbrev Held : ℕ → State → List ℕ → Type 0
   Held = Reached (plan_of l) (cycle_of l) run.need d (mode_of run.asked) run.log
 
-  goes_on : (p : ℕ) → p < cycle_of l → Held p (run.states p) (run.logs p) → ((run.answers p).answer ≡ Closed.Accepted) × Held (suc p) (run.answers p).state (run.logs (suc p))
+  goes_on : (p : ℕ) → p < cycle_of l → Held p (run.states p) (run.logs p) → ((run.answers p).answer ≡ Ok tt) × Held (suc p) (run.answers p).state (run.logs (suc p))
   unfolding plan_of
   goes_on p lp R =
       leads_on (plan_of l) S (cycle_of l) run.need begun_as.on_time run.tab run.own run.log p lp (run.states p) (run.logs p) some (mode_of run.asked) R (run.logs (suc p)) (run.answers p) (run.steps.stepped p lp)
@@ -64,7 +64,7 @@ module _ (l : TaskList) (run : FullRun l) where
   -- No step of it is refused.
   pub no_step_refused : (p : ℕ) → p < cycle_of l → (closed_answer (run.answers p).answer).number ≡ 0
   unfolding closed_answer none refusal
-  no_step_refused p lp = ap (λ (x : Closed). (closed_answer x).number) (goes_on p lp (reached p (omega arith))).0
+  no_step_refused p lp = ap (λ (x : Result (Unit {0}) Refusal). (closed_answer x).number) (goes_on p lp (reached p (omega arith))).0
 
   on_time_run : OnTimeUpTo (plan_of l) d (cycle_of l)
   on_time_run = run_on_time (plan_of l) S (cycle_of l) run.need begun_as.on_time (mode_of run.asked)

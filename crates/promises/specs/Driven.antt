@@ -1,5 +1,5 @@
 -- Who runs in a slice of a full run is who the plan says, and the step is accepted and leads to the next slice's state and log.
-use Rattle.std.specs.Prelude.{◌≡◌, List, true, false}
+use Rattle.std.specs.Prelude.{◌≡◌, List, true, false, Ok}
 use Rattle.std.proofs.Math.Path.{refl, sym, ap}
 use Rattle.std.proofs.Common.{◌∙◌}
 use Rattle.std.proofs.Math.Logic.{⊎_elim}
@@ -18,7 +18,6 @@ use Rattle.run.specs.declared.Mode.{Mode}
 use Rattle.run.specs.declared.Mode.TheVariants.{Table, Filling}
 use Rattle.run.specs.declared.State.{State}
 use Rattle.run.specs.declared.Next.{Next}
-use Rattle.run.specs.declared.Closed.TheVariants.{Accepted}
 use Rattle.plan.proofs.Domination.{on_time_before, filling_on_time}
 use Rattle.run.specs.State.{key_of, current_of, job_of}
 use Rattle.run.specs.Who.{unless_ended, first_open, running_by, running}
@@ -171,7 +170,7 @@ module _ (P : Plan) (S : Sound P) (cycle : ℕ) (need : Demand) (on : OnTimeUpTo
 
   -- and the step is accepted and leads on.
   pub leads_on : ((i k : ℕ) → i < P.count → k < cycle / P.period i → 1 ≤ takes P need i k) → (m : Mode) → Reached P cycle need (demand_of m P need) m start p s g
-      → (g' : List ℕ) (r : Next) → Stepped s tab (next_clock s.clock) (report_in tab need s) g g' r → (r.answer ≡ Accepted) × Reached P cycle need (demand_of m P need) m start (suc p) r.state g'
+      → (g' : List ℕ) (r : Next) → Stepped s tab (next_clock s.clock) (report_in tab need s) g g' r → (r.answer ≡ Ok tt) × Reached P cycle need (demand_of m P need) m start (suc p) r.state g'
   leads_on some m R g' r T =
       let accepted = drive_accepted P cycle need (demand_of m P need) m start p lp s g R tab own in
       let a = step_answers s tab (next_clock s.clock) (report_in tab need s) g g' r accepted T in

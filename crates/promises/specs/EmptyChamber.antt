@@ -1,9 +1,9 @@
 -- A pass is earned, the statement: the answer to the empty chamber. EmptyChamberHolds has the proof.
-use Rattle.std.specs.Prelude.{◌≡◌, List, ℕ, suc, ◌≤◌, ◌<◌, get_or}
+use Rattle.std.specs.Prelude.{◌≡◌, List, ℕ, suc, ◌≤◌, ◌<◌, get_or, Option}
 use Rattle.plan.specs.Plan.{deadline}
 use Rattle.tasks.specs.declared.TaskList.{TaskList}
 use Rattle.tasks.specs.List.{plan_of}
-use Rattle.start.specs.declared.Asked.{Asked}
+use Rattle.run.specs.declared.Mode.{Mode}
 use Rattle.start.specs.declared.Started.{Started}
 use Rattle.start.specs.Start.{Begins, begun_answer}
 use Rattle.run.specs.declared.State.{State}
@@ -18,7 +18,7 @@ use Rattle.promises.specs.Demand3.{jobs_in, place_of}
 -- its answer.
 pub record Calls (l : TaskList) : Type 0 where
   pub supply : ℕ
-  pub asked : Asked
+  pub asked : Option Mode
   pub clock : ℕ
   pub log : List ℕ
   pub begun : Started

@@ -1,6 +1,6 @@
 -- What demand 3 speaks of is there: an accepted build gives the list's own table, and the course of an accepted list whose log has
 -- room is a full run, for any needs from one slice up. Every full run is such a course.
-use Rattle.std.specs.Prelude.{◌≡◌, List, length}
+use Rattle.std.specs.Prelude.{◌≡◌, List, length, Option, Ok, Err}
 use Rattle.std.proofs.Math.Path.{refl}
 use Rattle.std.proofs.Common.{◌∙◌, arith, le-ltb}
 use Prim.Native.Nat.{ℕ, zero, suc, ◌≤◌, ◌<◌}
@@ -10,11 +10,9 @@ use Rattle.plan.specs.Plan.{Demand}
 use Rattle.tasks.specs.declared.TaskList.{TaskList}
 use Rattle.tasks.specs.List.{plan_of}
 use Rattle.tasks.specs.Bounds.{cycle_of, jobs_of}
-use Rattle.verdict.specs.declared.Verdict.{Verdict}
-use Rattle.verdict.specs.declared.Verdict.TheVariants.{Accepted, Refused}
-use Rattle.verdict.specs.Verdict.{verdict_of, verdict_answer}
+use Rattle.verdict.specs.Verdict.{Verdict, verdict_of, verdict_answer}
 use Rattle.verdict.specs.Table.{fitted, Built}
-use Rattle.start.specs.declared.Asked.{Asked}
+use Rattle.run.specs.declared.Mode.{Mode}
 use Rattle.start.specs.declared.Started.{Started}
 use Rattle.start.specs.Start.{begun_of, begun_state, begun_log, Begins}
 use Rattle.run.specs.declared.State.{State}
@@ -30,8 +28,8 @@ use Rattle.promises.specs.Begun.{accepted_starts}
 -- A table that reaches the cycle's end is not refused by 8.
 pub fitted_whole : (v : Verdict) (room : ℕ) → (verdict_answer v).cycle ≤ room → fitted v room ≡ v
 unfolding fitted verdict_answer
-fitted_whole (Accepted cycle jobs task margin) room le = choose_no _ _ _ (le-ltb room cycle le)
-fitted_whole (Refused number task margin reached period) room le = refl
+fitted_whole (Ok a) room le = choose_no _ _ _ (le-ltb room a.cycle le)
+fitted_whole (Err r) room le = refl
 
 -- What an accepted build leaves in the lent bytes is the list's own table.
 pub own_table : (l : TaskList) (supply : ℕ) (old new : List ℕ) (v : Verdict) → Built l supply old new v → (verdict_answer v).number ≡ 0 → Own (plan_of l) (cycle_of l) new
@@ -40,7 +38,7 @@ own_table l supply old new v built z =
     record { reaches = T.reaches; entries = T.entries }
 
 -- ---- full runs
-module _ (l : TaskList) (supply : ℕ) (asked : Asked) (clock : ℕ) (log : List ℕ) where
+module _ (l : TaskList) (supply : ℕ) (asked : Option Mode) (clock : ℕ) (log : List ℕ) where
   -- The start as its contract has it.
   abbrev started : Started
   started = record { answer = begun_of (verdict_of l supply) (length log); state = begun_state l asked clock (verdict_of l supply) (length log) }

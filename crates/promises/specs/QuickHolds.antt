@@ -1,6 +1,6 @@
 -- The quick question answers as the verdict does: the proof of the statement in Quick. It rests on demand 2: the verdict is accepted
 -- exactly if every task passes, and a refusal for lateness names the first-ranking task that fails.
-use Rattle.std.specs.Prelude.{◌≡◌, Bool, true, false, ◌||◌, ◌⊎◌, ◌↔◌}
+use Rattle.std.specs.Prelude.{◌≡◌, Bool, true, false, ◌||◌, ◌⊎◌, ◌↔◌, Result, Ok, Err}
 use Rattle.std.proofs.Math.Path.{refl, sym, ap, subst}
 use Rattle.std.proofs.Common.{◌∙◌, true≢false, arith}
 use mathlib.Core.List.{List, [], ◌∷◌}
@@ -18,18 +18,16 @@ use Rattle.plan.proofs.ExactTest.{fails_first_alone}
 use Rattle.plan.specs.Points.{Point, Multiple, points, passes_among, Among, first_without}
 use Rattle.plan.proofs.Points.{level_own, level_before, level_tells, points_are, points_rise, points_enough, found_failing, none_found_pass}
 use Rattle.tasks.specs.declared.TaskList.{TaskList}
-use Rattle.tasks.specs.declared.Bounds.{Bounds}
-use Rattle.tasks.specs.declared.Bounds.TheVariants.{Kept, Broken}
+use Rattle.tasks.specs.declared.InBounds.{InBounds}
+use Rattle.tasks.specs.declared.refusals.Refusal.{Refusal}
 use Rattle.tasks.specs.List.{task_at, plan_of}
+use Rattle.tasks.specs.Refusal.{refusal_answer}
 use Rattle.tasks.specs.Bounds.{bounds_of}
 use Rattle.tasks.specs.Kept.{KeepsBounds}
 use Rattle.tasks.proofs.Kept.{plan_sound, kept_tells, broken_tells}
-use Rattle.verdict.specs.declared.Verdict.{Verdict}
-use Rattle.verdict.specs.Verdict.{verdict_from, verdict_of, verdict_answer}
+use Rattle.verdict.specs.Verdict.{Verdict, verdict_from, verdict_of, verdict_answer}
 use Rattle.verdict.specs.Answers.{ByBounds, ForLateness, OnTimeAll}
 use Rattle.verdict.proofs.Told.{verdict_tells}
-use Rattle.quick.specs.declared.Quick.{Quick}
-use Rattle.quick.specs.declared.Quick.TheVariants.{Accepted, Refused}
 use Rattle.quick.specs.Quick.{tried, tried_none, tried_late, quick_from, quick_of, quick_answer}
 use Rattle.records.specs.Grammar.{Read, Reads}
 use Rattle.records.proofs.Reading.{reads_only}
@@ -53,7 +51,7 @@ module _ (l : TaskList) (supply : ℕ) (K : KeepsBounds l supply) where
 
   -- A list that breaks no bound and has a task that fails is refused by 7.
   refused_late : (i : ℕ) → FirstFailing P i → (judged_as l supply).number ≡ 7
-  unfolding verdict_answer AllPass
+  unfolding verdict_answer refusal_answer AllPass
   refused_late i F =
       ⊎_elim (not_by_bounds l supply K)
       (⊎_elim
@@ -62,7 +60,7 @@ module _ (l : TaskList) (supply : ℕ) (K : KeepsBounds l supply) where
       (verdict_tells l supply)
 
   same_kept : (e : ℕ) → first_without P ≡ e → Same (quick_answer (tried e)) (judged_as l supply)
-  unfolding quick_answer none refusal
+  unfolding quick_answer refusal_answer none refusal
   same_kept zero z =
       rw tried_none
       (record { number = sym ((accepted_exactly l supply K).1 (none_found_pass P (plan_sound l supply K) z)); task = λ nz. absurd (nz refl); none_named = λ _. refl })
@@ -77,15 +75,15 @@ module _ (l : TaskList) (supply : ℕ) (K : KeepsBounds l supply) where
       })
 
 module _ (l : TaskList) (supply : ℕ) where
-  same_from : (b : Bounds) → bounds_of l supply ≡ b → Same (asked_as l supply) (judged_as l supply)
+  same_from : (b : Result InBounds Refusal) → bounds_of l supply ≡ b → Same (asked_as l supply) (judged_as l supply)
   unfolding quick_of quick_from quick_answer verdict_of verdict_from verdict_answer refusal
-  same_from (Kept cycle jobs) e =
-      subst (λ (q : Quick). Same (quick_answer q) (judged_as l supply)) (sym (ap (quick_from l) e))
-      (same_kept l supply (kept_tells l supply cycle jobs e).keeps (first_without (plan_of l)) refl)
-  same_from (Broken number task reached period) e = record {
-    number = ap (λ (b : Bounds). (quick_answer (quick_from l b)).number) e ∙ sym (ap (λ (b : Bounds). (verdict_answer (verdict_from l b)).number) e);
-    task = λ _. ap (λ (b : Bounds). (quick_answer (quick_from l b)).task) e ∙ sym (ap (λ (b : Bounds). (verdict_answer (verdict_from l b)).task) e);
-    none_named = λ z. absurd ((broken_tells l supply number task reached period e).some (sym (broken_tells l supply number task reached period e).number_is ∙ sym (ap (λ (b : Bounds). (quick_answer (quick_from l b)).number) e) ∙ z));
+  same_from (Ok k) e =
+      subst (λ (q : Result (Unit {0}) Refusal). Same (quick_answer q) (judged_as l supply)) (sym (ap (quick_from l) e))
+      (same_kept l supply (kept_tells l supply k e).keeps (first_without (plan_of l)) refl)
+  same_from (Err r) e = record {
+    number = ap (λ (b : Result InBounds Refusal). (quick_answer (quick_from l b)).number) e ∙ sym (ap (λ (b : Result InBounds Refusal). (verdict_answer (verdict_from l b)).number) e);
+    task = λ _. ap (λ (b : Result InBounds Refusal). (quick_answer (quick_from l b)).task) e ∙ sym (ap (λ (b : Result InBounds Refusal). (verdict_answer (verdict_from l b)).task) e);
+    none_named = λ z. absurd ((broken_tells l supply r e).some (sym (ap (λ (a : Answer). a.number) (broken_tells l supply r e).says) ∙ sym (ap (λ (b : Result InBounds Refusal). (quick_answer (quick_from l b)).number) e) ∙ z));
   }
 
   pub same : Same (asked_as l supply) (judged_as l supply)
@@ -95,9 +93,9 @@ module _ (l : TaskList) (supply : ℕ) where
   unfolding quick_answer none refusal
   no_more = plain (quick_of l supply)
     where
-      plain : (q : Quick) → quick_answer q ≡ refusal (quick_answer q).number (quick_answer q).task
-      plain Accepted = refl
-      plain (Refused number task) = refl
+      plain : (q : Result (Unit {0}) Refusal) → quick_answer q ≡ refusal (quick_answer q).number (quick_answer q).task
+      plain (Ok done) = refl
+      plain (Err r) = refl
 
   seven_names : (asked_as l supply).number ≡ 7 → (i : ℕ) × (((asked_as l supply).task ≡ suc i) × FirstFailing (plan_of l) i)
   unfolding verdict_answer

@@ -17,7 +17,7 @@ use Rattle.plan.proofs.Run.{goes_on_or_ends, job_goes_on as job_stays, had_goes_
 use Rattle.run.specs.declared.Mode.{Mode}
 use Rattle.run.specs.declared.State.{State}
 use Rattle.run.specs.State.{Job, fresh, runtime_of, current_of, job_of, deadline_next, offset, job_count, place}
-use Rattle.run.specs.Who.{unless_ended, running, who_refusal, of_entry, answered, who_of, runner_answer}
+use Rattle.run.specs.Who.{unless_ended, running, who_refusal, unless_refused, of_entry, answered, who_of, runner_answer}
 use Rattle.run.specs.Step.{next_clock, after_slice, job_after, state_after, log_after}
 use Rattle.run.specs.Sound.{SoundState}
 use Rattle.run.specs.Accepted.{WhoAccepted, StepAccepted, who_accepted}
@@ -46,7 +46,7 @@ unless_open s e i q f = ap (unless_ended s) q ∙ choose_no (job_of s i).ended 0
 
 -- Where asking is accepted, the one who is told is the one who runs; so the report is that one's.
 pub reported : (s : State) (tab : List ℕ) → WhoAccepted s tab → (need : Demand) → report_in tab need s ≡ report_of need s (running s tab)
-unfolding report_in who_of answered of_entry runner_answer none refusal
+unfolding report_in who_of answered unless_refused of_entry runner_answer none refusal
 reported s tab went need = ap (report_of need s) (told (who_refusal s tab) (running s tab) ((who_accepted s tab).1 went))
   where
     told : (n e : ℕ) → n ≡ 0 → (runner_answer (answered n e)).task ≡ e

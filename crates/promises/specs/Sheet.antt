@@ -1,7 +1,7 @@
 -- What `bench::drive` leaves is a full run of demand 3, so its theorems hold of every sheet that is printed from it: where the list
 -- is accepted, table, log and ends have room and each job's need is from one slice up, the run is whole, every byte is as the need
 -- says, and the ends that are noted are the ends of demand 3.
-use Rattle.std.specs.Prelude.{◌≡◌, leb}
+use Rattle.std.specs.Prelude.{◌≡◌, leb, Option}
 use Rattle.std.proofs.Math.Path.{sym, ap}
 use Rattle.std.proofs.Common.{◌∙◌, ⊎_elim, arith, eq-eqb, ne_eqb, le-leb}
 use mathlib.Core.List.{List}
@@ -17,15 +17,15 @@ use Rattle.tasks.specs.declared.TaskList.{TaskList}
 use Rattle.tasks.specs.List.{plan_of}
 use Rattle.tasks.specs.Bounds.{cycle_of, jobs_of}
 use Rattle.tasks.specs.Kept.{KeepsBounds}
-use Rattle.verdict.specs.declared.Verdict.{Verdict}
-use Rattle.verdict.specs.Verdict.{verdict_of, verdict_answer}
-use Rattle.start.specs.declared.Asked.{Asked}
+use Rattle.verdict.specs.Verdict.{Verdict, verdict_of, verdict_answer}
+use Rattle.run.specs.declared.Mode.{Mode}
 use Rattle.start.specs.Start.{mode_of, start_state}
 use Rattle.run.specs.declared.State.{State}
 use Rattle.run.specs.State.{offset}
-use Rattle.run.specs.Step.{answer_of, closed_number}
+use Rattle.run.specs.Who.{unless_refused}
+use Rattle.run.specs.Step.{next_clock, answer_of, step_says}
 use Rattle.bench.specs.declared.Driven.{Driven}
-use Rattle.bench.specs.Course.{Course, need_in, end_of, noted, refusal_in, ends_by, closed, course_at}
+use Rattle.bench.specs.Course.{Course, report_in, need_in, end_of, noted, refusal_in, ends_by, closed, course_at}
 use Rattle.bench.specs.Drive.{Drives, begun as first_of}
 use Rattle.promises.specs.Demand2Holds.{accepted_values}
 use Rattle.promises.specs.Demand3.{jobs_in, Own, FullRun, place_of, end_in}
@@ -48,7 +48,7 @@ note_next p byte end e pos so_far none some =
     (le_or_lt e p)
 
 -- ---- the ends of a course
-module _ (l : TaskList) (supply : ℕ) (asked : Asked) (clock : ℕ) (log : List ℕ) (need : Demand) (tab ends : List ℕ)
+module _ (l : TaskList) (supply : ℕ) (asked : Option Mode) (clock : ℕ) (log : List ℕ) (need : Demand) (tab ends : List ℕ)
     (ok : (verdict_answer (verdict_of l supply)).number ≡ 0) (room : jobs_of l ≤ length log) (needs : (i k : ℕ) → i < l.count → k < jobs_in l i → 1 ≤ need i k) (own : Own (plan_of l) (cycle_of l) tab) where
   abbrev run : FullRun l
   run = course_run l supply asked clock log need tab ends ok room needs own
@@ -57,11 +57,11 @@ module _ (l : TaskList) (supply : ℕ) (asked : Asked) (clock : ℕ) (log : List
   c = course_at tab need (first_of l supply asked clock log ends)
 
   no_refusal : (p : ℕ) → p < cycle_of l → refusal_in tab need (c p) ≡ 0
-  unfolding course_run refusal
-  no_refusal p lp = sym (ap (λ (a : Answer). a.number) (closed_number (refusal_in tab need (c p)))) ∙ no_step_refused l run p lp
+  unfolding course_run refusal_in refusal
+  no_refusal p lp = sym (ap (λ (a : Answer). a.number) (step_says (c p).state tab (next_clock (c p).state.clock) (report_in tab need (c p).state) (c p).log)) ∙ no_step_refused l run p lp
 
   all_noted : (p : ℕ) → p < cycle_of l → (c (suc p)).ends ≡ noted (c (suc p)).log (c (suc p)).state.position (c p).ends
-  unfolding course_at closed ends_by answer_of
+  unfolding course_at closed ends_by answer_of unless_refused
   all_noted p lp = rw (no_refusal p lp)
 
   ends_long : (p : ℕ) → p ≤ cycle_of l → length (c p).ends ≡ length ends
@@ -106,7 +106,7 @@ pub record Shows (l : TaskList) (run : FullRun l) (needs log ends : List ℕ) (l
   pub byte_is : (i k : ℕ) → i < l.count → k < jobs_in l i → get_or log (place_of l i k) 0 ≡ choose (leb (get_or needs (place_of l i k) 0) ((plan_of l).runtime i k)) 1 2
   pub end_is : (i k : ℕ) → i < l.count → k < jobs_in l i → get_or ends (place_of l i k) 0 ≡ end_in l run.logs i k
 
-module _ (l : TaskList) (supply : ℕ) (asked : Asked) (clock : ℕ) (needs table table' log log' ends ends' : List ℕ) (r : Driven) (D : Drives l supply asked clock needs table table' log log' ends ends' r)
+module _ (l : TaskList) (supply : ℕ) (asked : Option Mode) (clock : ℕ) (needs table table' log log' ends ends' : List ℕ) (r : Driven) (D : Drives l supply asked clock needs table table' log log' ends ends' r)
     (ok : (verdict_answer (verdict_of l supply)).number ≡ 0) (reaches : cycle_of l ≤ length table) (room : jobs_of l ≤ length log) (from_one : (x : ℕ) → x < jobs_of l → 1 ≤ get_or needs x 0) where
   abbrev first : Course
   first = first_of l supply asked clock log ends

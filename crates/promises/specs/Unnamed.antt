@@ -1,7 +1,6 @@
 -- After a start with no mode named the table is not looked at: 11 never comes. UnnamedHolds has the proof.
-use Rattle.std.specs.Prelude.{◌≡◌, List, ℕ, suc}
+use Rattle.std.specs.Prelude.{◌≡◌, List, ℕ, suc, None}
 use Rattle.tasks.specs.declared.TaskList.{TaskList}
-use Rattle.start.specs.declared.Asked.TheVariants.{Unnamed}
 use Rattle.start.specs.declared.Started.{Started}
 use Rattle.start.specs.Start.{Begins, begun_answer}
 use Rattle.run.specs.declared.State.{State}
@@ -25,7 +24,7 @@ pub record CallsUnnamed (l : TaskList) : Type 0 where
   pub clocks : ℕ → ℕ
   pub reports : ℕ → ℕ
   pub answers : ℕ → Next
-  pub begins : Begins l supply Unnamed clock log log_begun begun
+  pub begins : Begins l supply None clock log log_begun begun
   pub from_start : states 0 ≡ begun.state
   pub stepped : (n : ℕ) → Stepped (states n) (tables n) (clocks n) (reports n) (logs n) (logs_after n) (answers n)
   pub handed : (n : ℕ) → states (suc n) ≡ (answers n).state

@@ -1,6 +1,6 @@
 -- The logic viewer, the statement: what writing, reading back and explaining a run refuse and in which order, that a file has one
 -- reading, and that a run is explained exactly if some needs lead to it. ViewerHolds has the proof.
-use Rattle.std.specs.Prelude.{◌≡◌, List, ◌↔◌, ℕ, ◌+◌, ◌≤◌, ◌<◌, min, length, take}
+use Rattle.std.specs.Prelude.{◌≡◌, List, ◌↔◌, ℕ, ◌+◌, ◌≤◌, ◌<◌, min, length, take, Some, None, Ok}
 use Rattle.basis.specs.Answer.{refusal}
 use Rattle.basis.specs.Bytes.{at}
 use Rattle.basis.specs.Rules.{Rule, rule, saying, Rules, no_more, ◌then◌, ◌and_then◌, GoesBy}
@@ -13,9 +13,7 @@ use Rattle.start.specs.Start.{mode_of}
 use Rattle.run.specs.declared.Mode.TheVariants.{Filling}
 use Rattle.run.specs.Who.{running}
 use Rattle.vcd.specs.Form.{vcd_text, IsRun, OfRun, Longest}
-use Rattle.explain.specs.declared.Viewed.{Viewed}
-use Rattle.explain.specs.declared.Viewed.TheVariants.{Given, No}
-use Rattle.explain.specs.Seen.{viewed_answer}
+use Rattle.explain.specs.Seen.{Viewed, viewed_answer}
 use Rattle.viewer.specs.Viewer.{Writes, ReadsBack, ExplainsFile}
 use Rattle.output.specs.Output.{entries}
 use Rattle.promises.specs.Demand2.{judged_as}
@@ -70,19 +68,20 @@ pub record Viewer : Type 0 where
   -- Every file has one reading, and 18 one place.
   pub one_run : (run other : List ℕ) → IsRun run → IsRun other → vcd_text run ≡ vcd_text other → run ≡ other
   pub one_place : (file : List ℕ) (m n : ℕ) → Longest file m → Longest file n → m ≡ n
-  -- What is written is the run's text; and reading it back gives the run it came from, whatever the run.
-  pub written : (l : TaskList) (supply : ℕ) (run old new : List ℕ) (n : ℕ) → Writes l supply run old new (Given n) → OfRun (take n new) run
-  pub read_back : (l : TaskList) (supply : ℕ) (run old new : List ℕ) (n : ℕ) → Writes l supply run old new (Given n)
-      → (old' new' : List ℕ) (r : Viewed) → ReadsBack l supply (take n new) old' new' r → cycle_of l ≤ length old' → (r ≡ Given (cycle_of l)) × (take (cycle_of l) new' ≡ run)
+  -- What is written is the run's text; and reading it back gives the run it came from, whatever the run. (`Ok (Some n)`: n numbers
+  -- are given; `Ok None`: no.)
+  pub written : (l : TaskList) (supply : ℕ) (run old new : List ℕ) (n : ℕ) → Writes l supply run old new (Ok (Some n)) → OfRun (take n new) run
+  pub read_back : (l : TaskList) (supply : ℕ) (run old new : List ℕ) (n : ℕ) → Writes l supply run old new (Ok (Some n))
+      → (old' new' : List ℕ) (r : Viewed) → ReadsBack l supply (take n new) old' new' r → cycle_of l ≤ length old' → (r ≡ Ok (Some (cycle_of l))) × (take (cycle_of l) new' ≡ run)
   -- Explained: yes exactly if such needs exist, for whatever is not refused;
   pub yes_exactly : (l : TaskList) (supply : ℕ) (file old new run : List ℕ) (r : Viewed) → ExplainsFile l supply file old new r → (viewed_answer r).number ≡ 0 → OfRun file run
-      → (r ≡ Given (jobs_of l)) ↔ ((need : Demand) × Explains (plan_of l) (cycle_of l) run need)
-  pub no_else : (l : TaskList) (supply : ℕ) (file old new : List ℕ) (r : Viewed) → ExplainsFile l supply file old new r → (viewed_answer r).number ≡ 0 → (r ≡ Given (jobs_of l) → ⊥) → (r ≡ No) × (new ≡ old)
+      → (r ≡ Ok (Some (jobs_of l))) ↔ ((need : Demand) × Explains (plan_of l) (cycle_of l) run need)
+  pub no_else : (l : TaskList) (supply : ℕ) (file old new : List ℕ) (r : Viewed) → ExplainsFile l supply file old new r → (viewed_answer r).number ≡ 0 → (r ≡ Ok (Some (jobs_of l)) → ⊥) → (r ≡ Ok None) × (new ≡ old)
   -- the needs given lead to the run;
-  pub given_lead : (l : TaskList) (supply : ℕ) (file old new run : List ℕ) (n : ℕ) → ExplainsFile l supply file old new (Given n) → OfRun file run
+  pub given_lead : (l : TaskList) (supply : ℕ) (file old new run : List ℕ) (n : ℕ) → ExplainsFile l supply file old new (Ok (Some n)) → OfRun file run
       → (need : Demand) → Stand l need new → Explains (plan_of l) (cycle_of l) run need
   -- and whichever needs lead there, each job is given its own, or its run-time where it took all of that.
-  pub given_are : (l : TaskList) (supply : ℕ) (file old new run : List ℕ) (n : ℕ) → ExplainsFile l supply file old new (Given n) → OfRun file run
+  pub given_are : (l : TaskList) (supply : ℕ) (file old new run : List ℕ) (n : ℕ) → ExplainsFile l supply file old new (Ok (Some n)) → OfRun file run
       → (need : Demand) → Explains (plan_of l) (cycle_of l) run need → Stand l (λ i k. min (need i k) ((plan_of l).runtime i k)) new
   -- The filling run is that of demand 3: who ran in a full run that fills freed slices is explained by its needs.
   pub full_run_explained : (l : TaskList) (full : FullRun l) (run : List ℕ) → mode_of full.asked ≡ Filling → WhoRan l full run → Explains (plan_of l) (cycle_of l) run full.need

@@ -1,4 +1,5 @@
 -- What the walk over the arrays tells of the list that they show, and the answer that it gives.
+use Rattle.std.specs.Prelude.{Result, Ok, Err, Some, None}
 use mathlib.Core.Path.{◌≡◌, refl, sym, ap, ◌∙◌}
 use mathlib.Core.List.{List}
 use mathlib.Core.Logic.{inl, inr, ⊎_elim}
@@ -17,16 +18,17 @@ use Rattle.plan.proofs.Order.{behind_not_before, sum_before, ranked_first}
 use Rattle.plan.specs.Points.{fails_at_points, first_without}
 use Rattle.plan.proofs.Points.{fails_at_points_lem}
 use Rattle.tasks.specs.declared.TaskList.{TaskList}
-use Rattle.tasks.specs.declared.Bounds.TheVariants.{Kept, Broken}
+use Rattle.tasks.specs.declared.InBounds.{InBounds}
+use Rattle.tasks.specs.declared.refusals.Refusal.{Refusal}
+use Rattle.tasks.specs.declared.refusals.Refusal.TheVariants.{Fails}
 use Rattle.tasks.specs.List.{plan_of}
 use Rattle.tasks.specs.Bounds.{bounds_of, cycle_of}
 use Rattle.tasks.specs.Kept.{Bounded}
 use Rattle.tasks.proofs.Kept.{plan_sound, plan_monotonic, cycle_pos, period_divides_cycle, kept_tells}
+use Rattle.ranking.specs.declared.Ranked.{Ranked}
 use Rattle.ranking.specs.Ranks.{Ranks, Shows, ranked_shows}
-use Rattle.quick.specs.declared.Quick.{Quick}
-use Rattle.quick.specs.declared.Quick.TheVariants.{Accepted, Refused}
 use Rattle.quick.specs.Quick.{tried, tried_none, tried_late, quick_from, quick_of}
-use Rattle.quick.specs.Shapes.{level_asks, Level, NonePasses, SomePasses, ComesRound, FirstFails}
+use Rattle.quick.specs.Shapes.{level_asks, Level, NonePasses, SomePasses, ComesRound, AllPass, FirstFails}
 
 -- ---- what a place passes, its task does
 module _ (P : Plan) (sound : Sound P) (order periods dues runtimes : List ℕ) (W : Shows P order periods dues runtimes) where
@@ -69,23 +71,35 @@ module _ (P : Plan) (sound : Sound P) (order periods dues runtimes : List ℕ) (
   unfolding first_without
   is_first e h = ranked_first (key_in P 0) (fails_at_points P) (λ k. fails_at_points P (at order k)) n order (W.ranked 0) (λ k lk. refl) e h
 
-  pub all_have : FirstFails periods dues runtimes n n → 0 ≡ first_without P
-  unfolding FirstIn
-  all_have F = is_first 0 (inl (record { idle = refl; none = λ k lk. place_passes k lk (F.before_pass k lk) }))
+  pub all_have : FirstFails periods dues runtimes n None → 0 ≡ first_without P
+  unfolding FirstIn FirstFails AllPass
+  all_have F = is_first 0 (inl (record { idle = refl; none = λ k lk. place_passes k lk (F k lk) }))
 
-  pub first_without_lem : (k : ℕ) → k < n → FirstFails periods dues runtimes n k → suc (at order k) ≡ first_without P
-  unfolding FirstIn
-  first_without_lem k lk F = is_first (suc (at order k)) (inr (record {
+  pub first_without_lem : (k : ℕ) → FirstFails periods dues runtimes n (Some k) → suc (at order k) ≡ first_without P
+  unfolding FirstIn FirstFails AllPass
+  first_without_lem k F = is_first (suc (at order k)) (inr (record {
     place = k;
-    below = lk;
+    below = F.within;
     is = refl;
-    wanting = place_fails k lk (F.fails lk);
-    none_before = λ j lj. place_passes j (omega arith) (F.before_pass j lj);
+    wanting = place_fails k F.within F.fails;
+    none_before = λ j lj. place_passes j (omega (arith, F.within)) (F.before_pass j lj);
   }))
 
 -- ---- the answer
-module _ (l : TaskList) (bounded : Bounded l) (order periods dues runtimes : List ℕ)
-    (R : Ranks l (replicate 16 0) (replicate 16 0) (replicate 16 0) (replicate 16 0) order periods dues runtimes) where
+module _ (l : TaskList) (bounded : Bounded l) (fresh ranked : Ranked) (zeros : fresh ≡ record { order = replicate 16 0; periods = replicate 16 0; dues = replicate 16 0; runtimes = replicate 16 0 })
+    (ranks : Ranks l fresh.order fresh.periods fresh.dues fresh.runtimes ranked.order ranked.periods ranked.dues ranked.runtimes) where
+  abbrev order : List ℕ
+  order = ranked.order
+
+  abbrev periods : List ℕ
+  periods = ranked.periods
+
+  abbrev dues : List ℕ
+  dues = ranked.dues
+
+  abbrev runtimes : List ℕ
+  runtimes = ranked.runtimes
+
   sound : Sound (plan_of l)
   sound = plan_sound l bounded.supply bounded.keeps
 
@@ -93,7 +107,7 @@ module _ (l : TaskList) (bounded : Bounded l) (order periods dues runtimes : Lis
   monotonic = plan_monotonic l bounded.supply bounded.keeps
 
   W : Shows (plan_of l) order periods dues runtimes
-  W = ranked_shows l bounded.keeps.few order periods dues runtimes R
+  W = ranked_shows l bounded.keeps.few order periods dues runtimes (rw zeros at ranks)
 
   pub task_below : (k : ℕ) → k < l.count → at order k < l.count
   unfolding plan_of
@@ -130,24 +144,31 @@ module _ (l : TaskList) (bounded : Bounded l) (order periods dues runtimes : Lis
     divided = λ k lk. rw (W.period_is k lk, e) (period_divides_cycle l bounded.supply bounded.keeps (at order k) (task_below k lk));
   }
 
-  pub answer_accepted : FirstFails periods dues runtimes l.count l.count → Accepted ≡ tried (first_without (plan_of l))
+  pub answer_accepted : FirstFails periods dues runtimes l.count None → Ok tt ≡ tried (first_without (plan_of l))
   unfolding plan_of
   answer_accepted F = sym tried_none ∙ ap tried (all_have (plan_of l) sound order periods dues runtimes W F)
 
-  pub answer_refused : (k : ℕ) → k < l.count → FirstFails periods dues runtimes l.count k → Refused 7 (at order k + 1) ≡ tried (first_without (plan_of l))
-  unfolding plan_of
-  answer_refused k lk F = ap (Refused 7) (add-one (at order k)) ∙ sym (tried_late (at order k)) ∙ ap tried (first_without_lem (plan_of l) sound order periods dues runtimes W k lk F)
+  module _ (k : ℕ) (F : FirstFails periods dues runtimes l.count (Some k)) where
+    -- its place is one of the sixteen
+    pub place_within : (k < 16) × (at order k < l.count)
+    unfolding FirstFails
+    place_within = (omega (arith, bounded.keeps.few, F.within), task_below k F.within)
+
+    pub answer_refused : Err (Fails (at order k + 1)) ≡ tried (first_without (plan_of l))
+    unfolding plan_of
+    answer_refused =
+        ap (λ (i : ℕ). Err (Fails i)) (add-one (at order k)) ∙ sym (tried_late (at order k)) ∙ ap tried (first_without_lem (plan_of l) sound order periods dues runtimes W k F)
 
 -- ---- the bounds come first
 module _ (l : TaskList) (supply : ℕ) where
-  pub broken : (number task reached period : ℕ) → bounds_of l supply ≡ Broken number task reached period → Refused number task ≡ quick_of l supply
+  pub broken : (r : Refusal) → bounds_of l supply ≡ Err r → Err r ≡ quick_of l supply
   unfolding quick_of quick_from
-  broken number task reached period e = sym (ap (quick_from l) e)
+  broken r e = sym (ap (quick_from l) e)
 
-  module _ (cycle jobs : ℕ) (e : bounds_of l supply ≡ Kept cycle jobs) where
-    pub kept_bounded : Bounded l × (cycle ≡ cycle_of l)
-    kept_bounded = let K = kept_tells l supply cycle jobs e in (record { supply = supply; keeps = K.keeps }, K.cycle_is)
+  module _ (k : InBounds) (e : bounds_of l supply ≡ Ok k) where
+    pub kept_bounded : Bounded l × (k.cycle ≡ cycle_of l)
+    kept_bounded = let K = kept_tells l supply k e in (record { supply = supply; keeps = K.keeps }, K.cycle_is)
 
-    pub kept : (r : Quick) → r ≡ tried (first_without (plan_of l)) → r ≡ quick_of l supply
+    pub kept : (r : Result (Unit {0}) Refusal) → r ≡ tried (first_without (plan_of l)) → r ≡ quick_of l supply
     unfolding quick_of quick_from
     kept r h = h ∙ sym (ap (quick_from l) e)

@@ -3,7 +3,7 @@ use mathlib.Core.Path.{◌≡◌, sym, ap, ◌∙◌}
 use Prim.Native.Nat.{ℕ, zero, suc, ◌+◌, ◌-◌, ◌*◌, ◌/◌, ◌≤◌, ◌<◌}
 use native.Mathlib.Omega.{arith}
 use native.Mathlib.Numerals.{add-one}
-use native.Mathlib.Nat.{mul-le-mul, mul-le-mul_left, mul-le-mul_right, mul_assoc, mul-add, mul_comm, div-add-mod', div-mul-le_self, lt-div-mul-add}
+use native.Mathlib.Nat.{mul-le-mul_left, mul-le-mul_right, mul_assoc, mul-add, mul_comm, div-add-mod', div-mul-le_self, lt-div-mul-add}
 use Rattle.basis.specs.Slices.{ceil}
 use Rattle.basis.proofs.Slices.{div_at, ceil_suc, ceil_covers, ceil_least}
 use Rattle.quick.specs.Shapes.{inverse_of}
@@ -62,10 +62,3 @@ module _ (T : ℕ) (pos : 0 < T) (small : T ≤ 4096) where
   -- So the code counts jobs right.
   pub jobs_are : (t inverse : ℕ) → 1 ≤ t → t ≤ 4096 → inverse ≡ inverse_of T → (t - 1) * inverse / 4294967296 + 1 ≡ ceil t T
   jobs_are t inverse a b e = rw e (ap (λ (x : ℕ). x + 1) (divides_exactly (t - 1) (omega arith)) ∙ released T pos t a)
-
--- What is divided has room in 64 bits, and what comes out in 32.
-pub product_small : (t inverse : ℕ) → t ≤ 4096 → inverse ≤ 4294967296 → (t - 1) * inverse ≤ 17592186044416
-product_small t inverse a b = omega (arith, mul-le-mul {n₁ = t - 1} {m₁ = inverse} {n₂ = 4096} {m₂ = 4294967296} (omega arith) b)
-
-pub quotient_small : (t inverse : ℕ) → t ≤ 4096 → inverse ≤ 4294967296 → (t - 1) * inverse / 4294967296 ≤ 4096
-quotient_small t inverse a b = omega (arith, product_small t inverse a b, div-mul-le_self ((t - 1) * inverse) 4294967296)

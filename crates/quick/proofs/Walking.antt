@@ -1,8 +1,9 @@
 -- The walk from point to point, as laws over plain values: where it stands, and what a task that is tried tells.
+use Rattle.std.specs.Prelude.{Some, None}
 use mathlib.Core.Path.{◌≡◌, refl, sym, ap, ◌∙◌}
-use mathlib.Core.Bool.{true, false, ◌&&◌}
+use mathlib.Core.Bool.{true, ◌&&◌}
 use mathlib.Core.List.{List}
-use mathlib.Core.Logic.{◌⊎◌, inl, inr, ⊎_elim}
+use mathlib.Core.Logic.{⊎_elim}
 use Prim.Native.Nat.{ℕ, zero, suc, ◌+◌, ◌*◌, ◌/◌, ◌≤◌, ◌<◌, min}
 use native.Mathlib.Omega.{arith}
 use native.Mathlib.Numerals.{add-one}
@@ -10,15 +11,14 @@ use native.Mathlib.Nat.{mul-le-mul_left, mul-le-mul_right, mul_comm, mul_assoc, 
 use lib.Dec.{leb, ltb}
 use lib.ListN.{length, set, replicate, length-set, length-replicate}
 use lib.Seq.{get_or-set_same, get_or-set_other}
-use borrow.Author.Tests.{lt-ltb, ltb-true, leb-true, leb-false}
+use borrow.Author.Tests.{ltb-true, leb-true}
 use Rattle.basis.specs.Bytes.{at}
-use Rattle.basis.specs.Choose.{both_true, both_false, le_or_lt, below_suc}
+use Rattle.basis.specs.Choose.{both_true, le_or_lt, below_suc}
 use Rattle.basis.specs.Slices.{ceil}
 use Rattle.basis.proofs.Slices.{ceil_suc, ceil_covers, ceil_least, ceil_grows, ceil_between}
 use Rattle.basis.specs.Sum.{sum, sum_ext, sum_le, sum_same, sum_mul}
 use Rattle.quick.specs.declared.walk.Walk.{Walk}
-use Rattle.quick.specs.declared.walk.Trial.TheVariants.{Fails, Passes}
-use Rattle.quick.specs.Shapes.{inverse_of, multiple_from, smallest, level_asks, Level, ComesRound, Fits, Stands, NonePasses, Walks, Begins, Walked, SomePasses, Tried, FirstFails}
+use Rattle.quick.specs.Shapes.{inverse_of, multiple_from, smallest, level_asks, Level, ComesRound, Fits, Stands, NonePasses, Walks, Begins, Walked, SomePasses, Tried, AllPass, FirstFails}
 use Rattle.quick.proofs.Inverse.{multiple_near, inverse_most}
 
 -- ---- one task
@@ -108,13 +108,6 @@ module _ (point asked due : ℕ) where
   pub goes_on : (ltb point asked && leb asked due) ≡ true → (point < asked) × (asked ≤ due)
   goes_on e = let h = (both_true (ltb point asked) (leb asked due)).0 e in (ltb-true point asked h.0, leb-true asked due h.1)
 
-  pub stops : (ltb point asked && leb asked due) ≡ false → (asked ≤ point) ⊎ (due < asked)
-  stops e =
-      ⊎_elim
-      (λ (l : asked ≤ point). inl l)
-      (λ (l : point < asked). inr (leb-false asked due ((both_false (ltb point asked) (leb asked due)).0 e (lt-ltb point asked l))))
-      (le_or_lt asked point)
-
 module _ (periods dues runtimes : List ℕ) (n : ℕ) (L : Level periods dues runtimes n) where
   pub period_pos : (k : ℕ) → k < n → 0 < at periods k
   period_pos k l = omega (arith, L.due_pos k l, L.due_within k l)
@@ -123,9 +116,6 @@ module _ (periods dues runtimes : List ℕ) (n : ℕ) (L : Level periods dues ru
   level_fits inverses is t a b = record { few = L.few; from_1 = a; to_4096 = b; period_pos = period_pos; period_small = L.period_small; runtime_within = L.runtime_within; inverse_is = is }
 
   module _ (due : ℕ) (small : due ≤ 4096) (w : Walk) (W : Walks periods runtimes n due w) (on : (w.point < w.asked) × (w.asked ≤ due)) where
-    pub asked_fits : (inverses : List ℕ) → ((k : ℕ) → k < n → at inverses k ≡ inverse_of (at periods k)) → Fits periods inverses runtimes n w.asked
-    asked_fits inverses is = level_fits inverses is w.asked (omega (arith, on.0)) (omega (arith, on.1))
-
     module _ (next : Walk) (S : Stands periods runtimes n w.asked next) where
       pub walks_on : Walks periods runtimes n due next
       walks_on = record {
@@ -178,35 +168,32 @@ module _ (periods inverses runtimes : List ℕ) (n due : ℕ) (first : Walk) (B 
   began_pos : (k : ℕ) → k < n → 0 < at periods k
   began_pos = period_pos periods B.dues runtimes n B.level
 
-  pub began_fits : (t : ℕ) → 1 ≤ t → t ≤ 4096 → Fits periods inverses runtimes n t
-  began_fits = level_fits periods B.dues runtimes n B.level inverses B.inverse_is
-
   pub due_from_1 : 1 ≤ due
   due_from_1 = omega (arith, B.walks.from_1, B.walks.to_due)
 
   -- Wherever the walk stands: more is asked for than there are slices before the deadline;
   module _ (w : Walk) (W : Walks periods runtimes n due w) where
-    pub too_much : due < w.asked → Tried periods runtimes n due Fails
+    pub too_much : due < w.asked → Tried periods runtimes n due None
     unfolding Tried NonePasses
     too_much over x a b = none_before_asked periods runtimes n began_pos W.slice w W.stands W.none_passes x a (omega arith)
 
     -- or it passes there, at the point or at the deadline.
-    pub in_time : w.asked ≤ due → w.asked ≤ w.point → Tried periods runtimes n due (Passes w)
+    pub in_time : w.asked ≤ due → w.asked ≤ w.point → Tried periods runtimes n due (Some w)
     unfolding Tried SomePasses
     in_time within p =
         let beyond : W.slice ≤ w.point = point_from_t periods runtimes n began_pos W.slice w W.stands (omega (arith, W.to_due, B.due_small)) in
         let asks = same_asked periods runtimes n began_pos W.slice w W.stands (min w.point due) (omega (arith, W.to_due)) (omega arith) in
         (W, (min w.point due, omega (arith, W.from_1, W.to_due), omega arith, omega (arith, asks)))
 
-  pub walked_in_time : (w : Walk) → Walked periods runtimes n due w → w.asked ≤ due → Tried periods runtimes n due (Passes w)
+  pub walked_in_time : (w : Walk) → Walked periods runtimes n due w → w.asked ≤ due → Tried periods runtimes n due (Some w)
   walked_in_time w W within = in_time w W.walks within (⊎_elim (λ (h : w.asked ≤ w.point). h) (λ (h : due < w.asked). absurd (omega arith)) W.ends)
 
   -- The deadline passes: the walk need not go on to it.
-  pub deadline_passes : (w : Walk) → Stands periods runtimes n due w → w.asked ≤ due → Tried periods runtimes n due (Passes first)
+  pub deadline_passes : (w : Walk) → Stands periods runtimes n due w → w.asked ≤ due → Tried periods runtimes n due (Some first)
   unfolding Tried SomePasses
   deadline_passes w S within = (B.walks, (due, due_from_1, omega arith, omega (arith, S.asked_is)))
 
-  pub cycle_overfull : (cycle : ℕ) → ComesRound periods n cycle → (w : Walk) → Stands periods runtimes n cycle w → cycle < w.asked → Tried periods runtimes n due Fails
+  pub cycle_overfull : (cycle : ℕ) → ComesRound periods n cycle → (w : Walk) → Stands periods runtimes n cycle w → cycle < w.asked → Tried periods runtimes n due None
   unfolding Tried
   cycle_overfull cycle C w S over = overfull periods runtimes n cycle began_pos C (omega (arith, S.asked_is)) (suc due)
 
@@ -221,11 +208,11 @@ pub record Trying (periods dues runtimes : List ℕ) (n k : ℕ) (inverses : Lis
   pub ahead : (j : ℕ) → k ≤ j → j < n → slice ≤ at dues j
   pub stands : Stands periods runtimes k slice w
   pub none_passes : NonePasses periods runtimes k slice
-  pub before_pass : (j : ℕ) → j < k → SomePasses periods runtimes (suc j) (at dues j)
+  pub before_pass : AllPass periods dues runtimes k
 
 module _ (periods dues runtimes : List ℕ) (n : ℕ) (L : Level periods dues runtimes n) where
   pub trying_none : Trying periods dues runtimes n 0 (replicate 16 0) (record { point = 8192; asked = 0 })
-  unfolding NonePasses
+  unfolding NonePasses AllPass
   trying_none = record {
     within = omega arith;
     room = length-replicate {A = ℕ} 16 0;
@@ -299,8 +286,8 @@ module _ (periods dues runtimes : List ℕ) (n : ℕ) (L : Level periods dues ru
       })
 
     -- What its trial tells: it passes, and the next one's turn comes;
-    pub trying_more : (last : Walk) → Tried periods runtimes (k + 1) (at dues k) (Passes last) → Trying periods dues runtimes n (k + 1) (set inverses k (inverse_of (at periods k))) last
-    unfolding Tried
+    pub trying_more : (last : Walk) → Tried periods runtimes (k + 1) (at dues k) (Some last) → Trying periods dues runtimes n (k + 1) (set inverses k (inverse_of (at periods k))) last
+    unfolding Tried AllPass
     trying_more last T = rw (add-one k) (
         let W : Walks periods runtimes (suc k) (at dues k) last = rw (add-one k) at T.0 in
         let passes : SomePasses periods runtimes (suc k) (at dues k) = rw (add-one k) at T.1 in
@@ -318,9 +305,10 @@ module _ (periods dues runtimes : List ℕ) (n : ℕ) (L : Level periods dues ru
         )
 
     -- or it is the first that passes nowhere.
-    pub first_found_lem : Tried periods runtimes (k + 1) (at dues k) Fails → FirstFails periods dues runtimes n k
-    unfolding Tried
-    first_found_lem T = record { within = omega arith; before_pass = S.before_pass; fails = λ _. rw (add-one k) at T }
+    pub first_found_lem : Tried periods runtimes (k + 1) (at dues k) None → FirstFails periods dues runtimes n (Some k)
+    unfolding Tried FirstFails
+    first_found_lem T = record { within = lk; before_pass = S.before_pass; fails = rw (add-one k) at T }
 
-  pub all_pass : (k : ℕ) (inverses : List ℕ) (w : Walk) → Trying periods dues runtimes n k inverses w → n ≤ k → FirstFails periods dues runtimes n n
-  all_pass k inverses w S l = record { within = omega arith; before_pass = λ j b. S.before_pass j (omega (arith, S.within)); fails = λ z. absurd (omega arith) }
+  pub all_pass : (k : ℕ) (inverses : List ℕ) (w : Walk) → Trying periods dues runtimes n k inverses w → n ≤ k → FirstFails periods dues runtimes n None
+  unfolding FirstFails AllPass
+  all_pass k inverses w S l = λ j b. S.before_pass j (omega (arith, S.within))

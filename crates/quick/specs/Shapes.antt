@@ -1,13 +1,11 @@
 -- Shaped like the code, for private contracts alone: the walk from point to point over arrays of numbers. Place k of an array
 -- belongs to the k-th task by rank; the first n tasks are those of a level.
-use Rattle.std.specs.Prelude.{◌≡◌, List, ◌⊎◌, ℕ, zero, suc, ◌*◌, ◌≤◌, ◌<◌, min}
+use Rattle.std.specs.Prelude.{◌≡◌, List, ◌⊎◌, ℕ, zero, suc, ◌*◌, ◌≤◌, ◌<◌, min, Option, Some, None}
 use Rattle.std.specs.Int.{◌∣◌}
 use Rattle.basis.specs.Bytes.{at}
 use Rattle.basis.specs.Slices.{ceil}
 use Rattle.basis.specs.Sum.{sum}
 use Rattle.quick.specs.declared.walk.Walk.{Walk}
-use Rattle.quick.specs.declared.walk.Trial.{Trial}
-use Rattle.quick.specs.declared.walk.Trial.TheVariants.{Fails, Passes}
 
 -- ---- numbers that the walk is about
 -- 2^32 divided by a period, rounded up: the inverse of the period in parts of 2^32.
@@ -89,13 +87,21 @@ unfoldable pub SomePasses : List ℕ → List ℕ → ℕ → ℕ → Type 0
 SomePasses periods runtimes n due = (t : ℕ) × (1 ≤ t) × (t ≤ due) × (level_asks periods runtimes n t ≤ t)
 
 -- What the trial of that task tells: no slice up to the deadline passes; or one does, and the walk still stands where none before it does.
-unfoldable pub Tried : List ℕ → List ℕ → ℕ → ℕ → Trial → Type 0
-Tried periods runtimes n due Fails = NonePasses periods runtimes n (suc due)
-Tried periods runtimes n due (Passes w) = Walks periods runtimes n due w × SomePasses periods runtimes n due
+unfoldable pub Tried : List ℕ → List ℕ → ℕ → ℕ → Option Walk → Type 0
+Tried periods runtimes n due None = NonePasses periods runtimes n (suc due)
+Tried periods runtimes n due (Some w) = Walks periods runtimes n due w × SomePasses periods runtimes n due
 
 -- ---- all tasks
--- The first place whose task passes nowhere; n, if there is none.
-pub record FirstFails (periods dues runtimes : List ℕ) (n k : ℕ) : Type 0 where
-  pub within : k ≤ n
-  pub before_pass : (j : ℕ) → j < k → SomePasses periods runtimes (suc j) (at dues j)
-  pub fails : k < n → NonePasses periods runtimes (suc k) (suc (at dues k))
+-- The first places, up to k, whose tasks pass somewhere.
+unfoldable pub AllPass : List ℕ → List ℕ → List ℕ → ℕ → Type 0
+AllPass periods dues runtimes k = (j : ℕ) → j < k → SomePasses periods runtimes (suc j) (at dues j)
+
+-- The first place whose task passes nowhere; or there is none.
+pub record FailsFirst (periods dues runtimes : List ℕ) (n k : ℕ) : Type 0 where
+  pub within : k < n
+  pub before_pass : AllPass periods dues runtimes k
+  pub fails : NonePasses periods runtimes (suc k) (suc (at dues k))
+
+unfoldable pub FirstFails : List ℕ → List ℕ → List ℕ → ℕ → Option ℕ → Type 0
+FirstFails periods dues runtimes n None = AllPass periods dues runtimes n
+FirstFails periods dues runtimes n (Some k) = FailsFirst periods dues runtimes n k

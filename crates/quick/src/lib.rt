@@ -1,4 +1,4 @@
-// The quick question, asked after every key: accepted, or the refusal's number and the task that it names.
+// The quick question, asked after every key: whether a list is accepted, or why not, without a margin.
 #![tactic(auto)]
 
 mod walk; // from point to point
@@ -10,41 +10,28 @@ ghost use Rattle.tasks.specs.Bounds.{cycle_of};
 ghost use Rattle.tasks.specs.Kept.{Bounded};
 ghost use Rattle.quick.specs.Quick.{quick_of, tried};
 
-use tasks::{Bounds, TaskList};
-
-// The answer, without a margin.
-#[derive(Clone, Copy)]
-pub enum Quick {
-    Accepted,
-    Refused { number: u32, task: usize },
-}
+use ranking::Ranked;
+use tasks::{Refusal, TaskList};
 
 // A list that keeps all bounds is refused for lateness, or accepted.
-fn try_points(list: TaskList, cycle: u32) -> Quick
+fn try_points(list: TaskList, cycle: u32) -> Result<(), Refusal>
     requires { Bounded list × (cycle ≡ cycle_of list) }
     ensures { result ≡ tried (first_without (plan_of list)) }
 {
-    let mut order = [0usize; 16];
-    let mut periods = [0u32; 16];
-    let mut dues = [0u32; 16];
-    let mut runtimes = [0u32; 16];
-    ranking::by_rank(list, &mut order, &mut periods, &mut dues, &mut runtimes);
-    let place = walk::first_failing(&periods, &dues, &runtimes, list.count, cycle);
-    if place == list.count {
-        return Quick::Accepted;
-    }
-    Quick::Refused {
-        number: 7,
-        task: order[place] + 1,
+    let mut ranked = Ranked::unranked();
+    ranking::by_rank(list, &mut ranked);
+    match walk::first_failing(&ranked, list.count, cycle) {
+        Some(place) => Err(Refusal::Fails {
+            task: ranked.order[place] + 1,
+        }),
+        None => Ok(()),
     }
 }
 
-// Refusals 1 to 6 first, then the points.
-pub fn ask(list: TaskList, supply: u32) -> Quick
+// Refusals 1 to 6 and 20 first, then the points.
+pub fn ask(list: TaskList, supply: u32) -> Result<(), Refusal>
     ensures { result ≡ quick_of list supply }
 {
-    match tasks::check_bounds(list, supply) {
-        Bounds::Broken { number, task, .. } => Quick::Refused { number, task },
-        Bounds::Kept { cycle, .. } => try_points(list, cycle),
-    }
+    let bounds = tasks::check_bounds(list, supply)?;
+    try_points(list, bounds.cycle)
 }

@@ -1,15 +1,12 @@
 -- What is printed at each way out of `answer`, as laws over plain values.
-use mathlib.Core.Path.{◌≡◌}
-use mathlib.Core.List.{List}
-use Prim.Native.Nat.{ℕ, ◌≤◌, ◌<◌}
-use lib.ListN.{length}
+use Rattle.std.specs.Prelude.{◌≡◌, List, ℕ, ◌≤◌, ◌<◌, length, Result, Ok, Err}
 use Rattle.basis.specs.Answer.{refusal, none}
-use Rattle.quick.specs.declared.Quick.{Quick}
-use Rattle.quick.specs.declared.Quick.TheVariants.{Accepted, Refused}
+use Rattle.tasks.specs.declared.TaskList.{TaskList}
+use Rattle.tasks.specs.declared.refusals.Refusal.{Refusal}
+use Rattle.tasks.specs.Refusal.{refusal_answer}
 use Rattle.quick.specs.Quick.{quick_of, quick_answer}
-use Rattle.records.specs.declared.Form.TheVariants.{Good, Bad}
-use Rattle.records.specs.declared.Parsed.{Parsed}
-use Rattle.records.specs.Grammar.{form_answer, read_of, Reads}
+use Rattle.records.specs.declared.BadLine.{BadLine}
+use Rattle.records.specs.Grammar.{form_answer, list_read, read_of, Reads}
 use Rattle.records.proofs.Reading.{good_is_0, bad_is_15}
 use Rattle.printing.specs.Text.{quick_text}
 use Rattle.printing.specs.Written.{Written}
@@ -20,20 +17,20 @@ module _ {input old new : List ℕ} {r : ℕ} where
   unfolding quick_record_of refusal
   answers_too_long l W = record { text = _; prints = too_long l; written = W }
 
-  module _ (p : Parsed) (l : length input ≤ 4096) (R : Reads input (read_of p)) where
-    pub answers_bad_line : (line : ℕ) → p.form ≡ Bad line → Written (quick_text 15 line) old new r → QuickAnswers input old new r
+  module _ (p : Result TaskList BadLine) (l : length input ≤ 4096) (R : Reads input (read_of p)) where
+    pub answers_bad_line : (bad : BadLine) → p ≡ Err bad → Written (quick_text 15 bad.line) old new r → QuickAnswers input old new r
     unfolding quick_record_of read_of form_answer refusal
-    answers_bad_line line b W = record { text = _; prints = bad_line l R (bad_is_15 p line b); written = rw b W }
+    answers_bad_line bad b W = record { text = _; prints = bad_line l R (bad_is_15 p bad b); written = rw b W }
 
-    module _ (good : p.form ≡ Good) (q : Quick) (e : q ≡ quick_of p.list 65536) where
+    module _ (list : TaskList) (good : p ≡ Ok list) (q : Result (Unit {0}) Refusal) (e : q ≡ quick_of list 65536) where
       answers_list : Written (quick_record_of (quick_answer q)) old new r → QuickAnswers input old new r
-      unfolding read_of
-      answers_list W = record { text = _; prints = asked l R (good_is_0 p good); written = rw e at W }
+      unfolding read_of list_read
+      answers_list W = record { text = _; prints = asked l R (good_is_0 p list good); written = rw good (rw e at W) }
 
-      pub answers_accepted : q ≡ Accepted → Written (quick_text 0 0) old new r → QuickAnswers input old new r
+      pub answers_accepted : (done : Unit {0}) → q ≡ Ok done → Written (quick_text 0 0) old new r → QuickAnswers input old new r
       unfolding quick_record_of quick_answer none refusal
-      answers_accepted is W = answers_list (rw is W)
+      answers_accepted done is W = answers_list (rw is W)
 
-      pub answers_refused : (number task : ℕ) → q ≡ Refused number task → Written (quick_text number task) old new r → QuickAnswers input old new r
+      pub answers_refused : (f : Refusal) → q ≡ Err f → {number task : ℕ} → number ≡ (refusal_answer f).number → task ≡ (refusal_answer f).task → Written (quick_text number task) old new r → QuickAnswers input old new r
       unfolding quick_record_of quick_answer refusal
-      answers_refused number task is W = answers_list (rw is W)
+      answers_refused f is n t W = answers_list (rw (is, ← n, ← t) W)

@@ -4,8 +4,6 @@
 ghost use Rattle.std.specs.Prelude.{◌≤◌};
 ghost use Rattle.output.specs.Quick.{QuickAnswers};
 
-use quick::Quick;
-use records::Form;
 use std::io;
 
 // What is to be printed for an input, and how long it is.
@@ -16,15 +14,13 @@ fn answer(input: &[u8], out: &mut [u8]) -> usize
     if 4096 < input.len() {
         return printing::write_quick(16, 0, out);
     }
-    let parsed = records::read_list(input);
-    let form = parsed.form;
-    if let Form::Bad(line) = form {
-        return printing::write_quick(15, line, out);
-    }
-    let list = parsed.list;
+    let list = match records::read_list(input) {
+        Ok(list) => list,
+        Err(bad) => return printing::write_quick(15, bad.line, out),
+    };
     match lent::ask_list(list, 65536) {
-        Quick::Accepted => printing::write_quick(0, 0, out),
-        Quick::Refused { number, task } => printing::write_quick(number, task, out),
+        Ok(()) => printing::write_quick(0, 0, out),
+        Err(refusal) => printing::write_quick(refusal.number(), refusal.task(), out),
     }
 }
 

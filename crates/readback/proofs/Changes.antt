@@ -1,15 +1,15 @@
 -- A run that is read change by change: what stands so far, one change more, and where a file is stuck.
-use Rattle.std.proofs.Common.{◌≡◌, ℕ, ◌+◌, ◌-◌, ◌*◌, ◌<◌, ◌≤◌, ◌⊎◌, List, [], ◌++◌, length, take, drop, replicate, sym, refl, ap, ◌∙◌, subst, inl, inr, ⊎_elim, append_assoc, arith, length-append, length-drop, take-append-drop, length-take-le, take_all, get_or-take, take-add}
+use Rattle.std.proofs.Common.{◌≡◌, ℕ, ◌+◌, ◌-◌, ◌*◌, ◌<◌, ◌≤◌, ◌⊎◌, List, [], ◌++◌, length, take, drop, replicate, sym, refl, ap, ◌∙◌, subst, inl, inr, ⊎_elim, append_assoc, arith, length-append, length-drop, take-append-drop, length-take-le, take_all, get_or-take, take-add, Ok, Err}
 use Rattle.basis.specs.Bytes.{at}
 use Rattle.basis.specs.Choose.{le_or_lt}
 use Rattle.printing.specs.Text.{ascii, digit}
 use Rattle.vcd.specs.Form.{header, time_line, value_line, no_entry, vcd_text, OfRun}
 use Rattle.vcd.specs.Follows.{Change, After, end, change, Form, SoFar, beginning, value_told, form_begins, after_beginning, after_change, after_makes, none_so_far, so_far_grows, text_so_far, text_of_none, is_run}
 use Rattle.vcd.specs.Beginnings.{Stuck, stuck_behind, stuck_within}
-use Rattle.readback.specs.declared.lines.Line.{Line}
+use Rattle.readback.specs.declared.Deviation.{Deviation}
 use Rattle.readback.specs.Shapes.{byte_at, Same, Shared, IsTime, IsOther, Reading, Filled}
 use Rattle.readback.proofs.Bytes.{Agree}
-use Rattle.readback.proofs.Steps.{whole_is, whole_stands}
+use Rattle.readback.proofs.Steps.{whole_is, whole_stands, cut_place}
 use Rattle.readback.proofs.Standing.{Below, Even, LineOf, cut_stuck, line_stands, line_inside}
 
 -- ---- the lines
@@ -86,9 +86,11 @@ module _ {file : List ℕ} {place t before : ℕ} {run : List ℕ} (S : Stands f
       (stuck_behind (take place file) Form (After t before) S.only (λ w a. subst (λ (p : List ℕ). Form (p ++ w)) (sym S.text) (after_makes a S.few run S.so_far)) (drop place file) n s))
 
   -- ---- stuck in a value line
-  pub value_stuck : {r : Line} → t < 4096 → (place ≡ length file → t ≡ 0) → Reading value_line (IsOther before) file place 9 1 r → r.size < 9 → Stuck Form file (place + r.size)
-  value_stuck {r} l open-end h short =
-      stuck_after r.size
+  pub value_stuck : (d : Deviation) → t < 4096 → (place ≡ length file → t ≡ 0) → Reading value_line (IsOther before) file place 9 1 (Err d) → Stuck Form file d.place
+  value_stuck d l open-end h =
+      let c = cut_place value_line (IsOther before) file place 9 d h in
+      subst (Stuck Form file) (sym c.2)
+      (stuck_after c.0
       (stuck_within (LineOf value_line (IsOther before)) (After t before) 9
       (λ w x. (
         ap length x.2 ∙ even_values.long x.0,
@@ -97,9 +99,9 @@ module _ {file : List ℕ} {place t before : ℕ} {run : List ℕ} (S : Stands f
             (change (change_is x.1 (record { from = omega arith; to = omega arith })) (end {t = t + 1} {before = x.0} (omega arith))),
       ))
       (λ w a. after_value a)
-      (drop place file) r.size short
-      (cut_stuck value_line (IsOther before) 9 even_values file place r.size short (h.cut short))
-      (λ e a. let z : t ≡ 0 = open-end (omega (arith, ap length e, length-drop place file, S.in_file)) in omega (arith, after_nothing a e)))
+      (drop place file) c.0 c.1
+      (cut_stuck value_line (IsOther before) 9 even_values file place c.0 c.1 c.3)
+      (λ e a. let z : t ≡ 0 = open-end (omega (arith, ap length e, length-drop place file, S.in_file)) in omega (arith, after_nothing a e))))
 
   module _ (v : ℕ) (other : IsOther before v) (value : Same file place (value_line v) 9) where
     -- ---- stuck in the time line after it
@@ -124,17 +126,18 @@ module _ {file : List ℕ} {place t before : ℕ} {run : List ℕ} (S : Stands f
         subst (λ (f : List ℕ). Stuck (After t before) f (9 + n)) (sym after_value_line)
         (stuck_behind (value_line v) (After t before) goes_on (λ w a. a) (λ w a. a) (drop (place + 9) file) n s)
 
-    time_stuck : {r : Line} → Reading time_line (IsTime (t + 1)) file (place + 9) 6 1 r → r.size < 6 → Stuck Form file (place + 9 + r.size)
-    time_stuck {r} h short =
-        let e : place + (9 + r.size) ≡ place + 9 + r.size = omega arith in
+    time_stuck : (d : Deviation) → Reading time_line (IsTime (t + 1)) file (place + 9) 6 1 (Err d) → Stuck Form file d.place
+    time_stuck d h =
+        let c = cut_place time_line (IsTime (t + 1)) file (place + 9) 6 d h in
+        let e : place + (9 + c.0) ≡ d.place = omega (arith, c.2) in
         subst (Stuck Form file) e
-        (stuck_after (9 + r.size)
-        (behind_value r.size
+        (stuck_after (9 + c.0)
+        (behind_value c.0
         (stuck_within (LineOf time_line (IsTime (t + 1))) goes_on 6
         (λ w x. (ap length x.2 ∙ even_times.long x.0, [], subst (λ (p : List ℕ). goes_on (p ++ [])) (sym x.2) (time_goes x.0 x.1)))
         (λ w a. inr (time_line_lem w a))
-        (drop (place + 9) file) r.size short
-        (cut_stuck time_line (IsTime (t + 1)) 6 even_times file (place + 9) r.size short (h.cut short))
+        (drop (place + 9) file) c.0 c.1
+        (cut_stuck time_line (IsTime (t + 1)) 6 even_times file (place + 9) c.0 c.1 c.3)
         (λ none a.
         let x = time_line_lem _ a in
         omega (arith, ap length (sym none ∙ x.3), length-append x.0 x.1, ap length x.2.2, even_times.long x.2.0)))))
@@ -173,21 +176,21 @@ module _ {file : List ℕ} {place t before : ℕ} {run : List ℕ} (S : Stands f
           }
 
   -- ---- as the lines are read
-  module _ {value : Line} (h : Reading value_line (IsOther before) file place 9 1 value) (whole : 9 ≤ value.size) where
-    other_value : IsOther before value.value
-    other_value = whole_is value_line (IsOther before) file place h whole
+  module _ (v : ℕ) (h : Reading value_line (IsOther before) file place 9 1 (Ok v)) where
+    other_value : IsOther before v
+    other_value = whole_is value_line (IsOther before) file place 9 v h
 
-    value_stands : Same file place (value_line value.value) 9
-    value_stands = whole_stands value_line (IsOther before) file place h whole
+    value_stands : Same file place (value_line v) 9
+    value_stands = whole_stands value_line (IsOther before) file place 9 v h
 
-    pub stuck_behind_value : {next : Line} → Reading time_line (IsTime (t + 1)) file (place + 9) 6 1 next → next.size < 6 → Stuck Form file (place + 9 + next.size)
-    stuck_behind_value {next} k short = time_stuck value.value other_value value_stands k short
+    pub stuck_behind_value : (d : Deviation) → Reading time_line (IsTime (t + 1)) file (place + 9) 6 1 (Err d) → Stuck Form file d.place
+    stuck_behind_value d k = time_stuck v other_value value_stands d k
 
-    pub one_more : {next : Line} {old new : List ℕ} → Reading time_line (IsTime (t + 1)) file (place + 9) 6 1 next → 6 ≤ next.size → run ≡ take t old → Filled old t next.value value.value new
-        → Stands file (place + 15) next.value value.value (take next.value new)
-    one_more {next} k long e f =
-        subst (Stands file (place + 15) next.value value.value) (ap (λ (l : List ℕ). l ++ replicate (next.value - t) value.value) e ∙ sym f.entries)
-        (next_change value.value other_value value_stands next.value (whole_is time_line (IsTime (t + 1)) file (place + 9) k long) (whole_stands time_line (IsTime (t + 1)) file (place + 9) k long))
+    pub one_more : (t' : ℕ) {old new : List ℕ} → Reading time_line (IsTime (t + 1)) file (place + 9) 6 1 (Ok t') → run ≡ take t old → Filled old t t' v new
+        → Stands file (place + 15) t' v (take t' new)
+    one_more t' k e f =
+        subst (Stands file (place + 15) t' v) (ap (λ (l : List ℕ). l ++ replicate (t' - t) v) e ∙ sym f.entries)
+        (next_change v other_value value_stands t' (whole_is time_line (IsTime (t + 1)) file (place + 9) 6 t' k) (whole_stands time_line (IsTime (t + 1)) file (place + 9) 6 t' k))
 
   -- ---- the end
   pub whole_run : place ≡ length file → 1 ≤ t → OfRun file run

@@ -39,14 +39,14 @@ module _ (before top : ℕ) (most : Top before top) where
 
   -- by more than 1, where the entry before may have the quotient too
   module _ (E : ℕ) (more : 2 ≤ E) where
-    pub other_quotient : (x : ℕ) → IsOther before x → Allowed 0 (top / E) 17 (x / E)
+    pub other_quotient : (x : ℕ) → IsOther before x → Allowed 0 (top / E) 5000 (x / E)
     other_quotient x i = record {
       from = omega arith;
       to = quotient_grows E x top (omega arith) (most.greatest x i.entry i.other);
       other = λ e. omega (arith, i.entry, div-le_self x E);
     }
 
-    pub quotient_other : (q : ℕ) → Allowed 0 (top / E) 17 q → (x : ℕ) × IsOther before x × (x / E ≡ q)
+    pub quotient_other : (q : ℕ) → Allowed 0 (top / E) 5000 q → (x : ℕ) × IsOther before x × (x / E ≡ q)
     quotient_other q a =
         let reaches : q * E ≤ top = omega (arith, mul-le-mul_right E a.to, div-mul-le_self top E) in
         ⊎_elim

@@ -1,17 +1,13 @@
 -- Whole lines, of which four bytes are read at a time.
-use Rattle.std.proofs.Common.{◌≡◌, ℕ, ◌+◌, ◌*◌, ◌/◌, ◌%◌, ◌<◌, ◌≤◌, List, ◌++◌, length, get_or, drop, sym, refl, ap, ◌∙◌, subst, div-one, arith}
+use Rattle.std.proofs.Common.{◌≡◌, ℕ, ◌+◌, ◌*◌, ◌/◌, ◌%◌, ◌<◌, ◌≤◌, List, ◌++◌, length, get_or, drop, sym, refl, ap, ◌∙◌, subst, div-one, arith, Ok}
 use Rattle.printing.specs.Text.{digit}
 use Rattle.vcd.specs.Form.{time_line, value_line}
 use Rattle.vcd.specs.Follows.{time_told, value_told}
-use Rattle.readback.specs.Shapes.{byte_at, place, Same, IsTime, IsOther, Reading, word, Word, FourBits, FourDigits, LastBit, Whole}
+use Rattle.readback.specs.Shapes.{byte_at, place, Same, IsTime, IsOther, Reading, Word, FourBits, FourDigits, LastBit, Whole}
 use Rattle.readback.proofs.Bytes.{inside_any}
 use Rattle.readback.proofs.Standing.{Even, line_stands}
 use Rattle.readback.proofs.Changes.{even_times, even_values}
 use Rattle.readback.proofs.Words.{Four, four, word_one, five_bits}
-
--- No line stands there where the number is too great.
-pub no_line : (line : ℕ → List ℕ) (most : ℕ) (file : List ℕ) (from size r : ℕ) → most < r → Whole line most file from size r
-no_line line most file from size r l = record { stands = λ h. absurd (omega arith) }
 
 module _ (file : List ℕ) where
   at_place : (i b : ℕ) → i < length file → get_or file i 0 ≡ b → byte_at file i ≡ b
@@ -19,26 +15,6 @@ module _ (file : List ℕ) where
 
   -- ---- four bytes
   module _ (i : ℕ) where
-    pub word_read : {x0 x1 x2 x3 : ℕ}
-        → i + 4 ≤ length file
-        → (x0 ≡ get_or file i 0) × (x0 ≤ 255)
-        → (x1 ≡ get_or file (i + 1) 0) × (x1 ≤ 255)
-        → (x2 ≡ get_or file (i + 2) 0) × (x2 ≤ 255)
-        → (x3 ≡ get_or file (i + 3) 0) × (x3 ≤ 255)
-        → Word file i (word x0 x1 x2 x3)
-    word_read inside h0 h1 h2 h3 =
-        let e0 = inside_any file i 0 256 (omega arith) in
-        let e1 = inside_any file (i + 1) 0 256 (omega arith) in
-        let e2 = inside_any file (i + 2) 0 256 (omega arith) in
-        let e3 = inside_any file (i + 3) 0 256 (omega arith) in
-        record {
-          first = omega (arith, e0, h0);
-          second = omega (arith, e1, h1);
-          third = omega (arith, e2, h2);
-          fourth = omega (arith, e3, h3);
-          is = omega (arith, e0, e1, e2, e3, h0, h1, h2, h3);
-        }
-
     -- They are those that the number is made of.
     word_bytes : (w : ℕ) (made : Four 256 w) → Word file i w → (byte_at file i ≡ made.a) × (byte_at file (i + 1) ≡ made.b) × (byte_at file (i + 2) ≡ made.c) × (byte_at file (i + 3) ≡ made.d)
     word_bytes w made h =
@@ -60,8 +36,8 @@ module _ (file : List ℕ) where
         → Whole time_line 4096 file from 6 r
     unfolding time_line digit Same place
     time_stands w r inside mark feed h digits = record {
-      stands = λ l.
-          let made : Four 256 w = four (48 + r / 1000 % 10) (48 + r / 100 % 10) (48 + r / 10 % 10) (48 + r % 10) (omega arith) (omega arith) (omega arith) (omega arith) (digits.are l) in
+      stands = λ _.
+          let made : Four 256 w = four (48 + r / 1000 % 10) (48 + r / 100 % 10) (48 + r / 10 % 10) (48 + r % 10) (omega arith) (omega arith) (omega arith) (omega arith) digits.are in
           let e = word_bytes (from + 1) w made h in
           ((((((refl, at_place from 35 (omega arith) mark), e.0), ahead 1 1 2 (omega arith) ∙ e.1), ahead 1 2 3 (omega arith) ∙ e.2), ahead 1 3 4 (omega arith) ∙ e.3), at_place (from + 5) 10 (omega arith) feed);
     }
@@ -71,19 +47,17 @@ module _ (file : List ℕ) where
         → get_or file from 0 ≡ 98
         → Word file (from + 1) w
         → FourBits w q
-        → q ≤ 15
         → Word file (from + 5) v
         → LastBit v last
-        → last ≤ 1
         → Whole value_line 16 file from 9 (q * 2 + last)
     unfolding value_line digit Same place
-    value_stands w v q last inside mark front bits few end ends l = record {
+    value_stands w v q last inside mark front bits end ends = record {
       stands = λ _.
-          let made : Four 256 w = four (48 + q / 8 % 2) (48 + q / 4 % 2) (48 + q / 2 % 2) (48 + q % 2) (omega arith) (omega arith) (omega arith) (omega arith) (bits.are few) in
-          let made-last : Four 256 v = four (48 + last) 32 33 10 (omega arith) (omega arith) (omega arith) (omega arith) (ends.ends l) in
+          let made : Four 256 w = four (48 + q / 8 % 2) (48 + q / 4 % 2) (48 + q / 2 % 2) (48 + q % 2) (omega arith) (omega arith) (omega arith) (omega arith) bits.are in
+          let made-last : Four 256 v = four (48 + last) 32 33 10 (omega (arith, ends.few)) (omega arith) (omega arith) (omega arith) ends.ends in
           let e = word_bytes (from + 1) w made front in
           let f = word_bytes (from + 5) v made-last end in
-          let g = five_bits q last l in (
+          let g = five_bits q last ends.few in (
             ((((((((refl, at_place from 98 (omega arith) mark), e.0 ∙ omega (arith, g.0)), ahead 1 1 2 (omega arith) ∙ e.1 ∙ omega (arith, g.1)), ahead 1 2 3 (omega arith) ∙ e.2 ∙ omega (arith, g.2)), ahead 1 3 4 (omega arith) ∙ e.3 ∙ omega (arith, g.3)), f.0 ∙ omega (arith, g.4)), ahead 5 1 6 (omega arith) ∙ f.1), ahead 5 2 7 (omega arith) ∙ f.2),
             ahead 5 3 8 (omega arith) ∙ f.3,
           );
@@ -95,25 +69,22 @@ module _ (file : List ℕ) where
       line_there x s = line_stands file from (line x) (even.small x) (subst (Same file from (line x)) (sym (even.long x)) s)
 
       whole_read : (one : (x y : ℕ) (u w : List ℕ) → Is x → Is y → line x ++ u ≡ line y ++ w → x ≡ y) (r : ℕ) → Is r → r ≤ most → Whole line most file from size r
-          → Reading line Is file from size 1 (record { size = size; value = r })
+          → Reading line Is file from size 1 (Ok r)
+      unfolding Reading
       whole_read one r is l h =
           let same = h.stands l in
           record {
-            within = omega arith;
-            goes = λ _. record {
-              some = r;
-              is = is;
-              some_quotient = div-one r;
-              all = λ x q. subst (λ (i : ℕ). Same file from (line i) size) (sym q ∙ div-one x) same;
-              only = λ x i s. div-one x ∙ one x r _ _ i is (sym (line_there x s) ∙ line_there r same);
-            };
-            cut = λ less. absurd (omega arith);
+            some = r;
+            is = is;
+            some_quotient = div-one r;
+            all = λ x q. subst (λ (i : ℕ). Same file from (line i) size) (sym q ∙ div-one x) same;
+            only = λ x i s. div-one x ∙ one x r _ _ i is (sym (line_there x s) ∙ line_there r same);
           }
 
-    pub time_whole : (low r : ℕ) → low ≤ r → r ≤ 4096 → Whole time_line 4096 file from 6 r → Reading time_line (IsTime low) file from 6 1 (record { size = 6; value = r })
+    pub time_whole : (low r : ℕ) → low ≤ r → r ≤ 4096 → Whole time_line 4096 file from 6 r → Reading time_line (IsTime low) file from 6 1 (Ok r)
     time_whole low r l most h =
         whole_read time_line (IsTime low) 6 even_times 4096 (λ x y u w i j e. (time_told x y u w i.to j.to e).0) r (record { from = l; to = most }) most h
 
-    pub value_whole : (before r : ℕ) → r ≤ 16 → (r ≡ before → ⊥) → Whole value_line 16 file from 9 r → Reading value_line (IsOther before) file from 9 1 (record { size = 9; value = r })
+    pub value_whole : (before r : ℕ) → r ≤ 16 → (r ≡ before → ⊥) → Whole value_line 16 file from 9 r → Reading value_line (IsOther before) file from 9 1 (Ok r)
     value_whole before r most other h =
         whole_read value_line (IsOther before) 9 even_values 16 (λ x y u w i j e. (value_told x y u w i.entry j.entry e).0) r (record { entry = most; other = other }) most h

@@ -113,7 +113,7 @@ module _ (w n : ℕ) (few : n < 2 ^ 32) (less : (n + 808464432) % 2 ^ 32 ≡ w) 
     bits_read =
         let f = four_bits in
         let e = bits_of f.a f.b f.c f.d (n * 134480385 / 16777216 % 16) f.a_below f.b_below f.c_below f.d_below side_by_side in
-        record { are = λ _. with_zeros (few_16 n (wider (omega arith) f)) ∙ omega (arith, f.is, e.0, e.1, e.2, e.3) }
+        record { few = omega arith; are = with_zeros (few_16 n (wider (omega arith) f)) ∙ omega (arith, f.is, e.0, e.1, e.2, e.3) }
 
   module _ (small : bit_and n 4042322160 ≡ 0) where
     four_small : Four 16 n
@@ -166,9 +166,9 @@ module _ (w n : ℕ) (few : n < 2 ^ 32) (less : (n + 808464432) % 2 ^ 32 ≡ w) 
       digits_read =
           let f = four_digits in
           let e = digits_of f.a f.b f.c f.d ((n * 10 + n / 256) % 256 * 100 + (n * 10 + n / 256) / 65536 % 256) f.a_below f.b_below f.c_below f.d_below (omega (arith, first_two, last_two)) in
-          record { are = λ _. with_zeros digits_few ∙ omega (arith, f.is, e.0, e.1, e.2, e.3) }
+          record { are = with_zeros digits_few ∙ omega (arith, f.is, e.0, e.1, e.2, e.3) }
 
 -- ---- the end of a value line
-pub last_read : (w n : ℕ) → n < 2 ^ 32 → (n + 169943088) % 2 ^ 32 ≡ w → LastBit w n
+pub last_read : (w n : ℕ) → n ≤ 1 → (n + 169943088) % 2 ^ 32 ≡ w → LastBit w n
 unfolding digit
-last_read w n few less = record { ends = λ l. let h : n + 169943088 < 2 ^ 32 = omega arith in sym less ∙ mod-eq_of_lt h ∙ omega arith }
+last_read w n l less = record { few = l; ends = let h : n + 169943088 < 2 ^ 32 = omega arith in sym less ∙ mod-eq_of_lt h ∙ omega arith }

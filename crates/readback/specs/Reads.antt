@@ -1,10 +1,9 @@
 -- What reading a file back into a run comes to.
-use Rattle.std.specs.Prelude.{◌≡◌, ℕ, List, length, nat_le}
+use Rattle.std.specs.Prelude.{◌≡◌, ℕ, List, length, nat_le, Result, Ok, Err}
 use Rattle.basis.specs.Bytes.{at, overwrite}
 use Rattle.basis.specs.Choose.{choose}
 use Rattle.vcd.specs.Form.{OfRun, Longest}
-use Rattle.readback.specs.declared.Found.{Found}
-use Rattle.readback.specs.declared.Found.TheVariants.{Run, Bad}
+use Rattle.readback.specs.declared.Deviation.{Deviation}
 
 -- Read back: the run that the file is the form of, into the lent bytes if there is room for all of it; else nothing is written.
 -- The answer is how long it is.
@@ -20,6 +19,6 @@ pub record NoForm (file old new : List ℕ) (n : ℕ) : Type 0 where
   pub longest : Longest file n
   pub bytes : new ≡ old
 
-unfoldable pub Reads : List ℕ → List ℕ → List ℕ → Found → Type 0
-Reads file old new (Run n) = ReadBack file old new n
-Reads file old new (Bad n) = NoForm file old new n
+unfoldable pub Reads : List ℕ → List ℕ → List ℕ → Result ℕ Deviation → Type 0
+Reads file old new (Ok n) = ReadBack file old new n
+Reads file old new (Err d) = NoForm file old new d.place

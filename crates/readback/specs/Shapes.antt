@@ -1,13 +1,11 @@
 -- Shaped like the code, for private contracts alone: lines that are read byte by byte or four bytes at a time, and runs that are read
 -- change by change.
-use Rattle.std.specs.Prelude.{◌≡◌, ℕ, zero, suc, ◌+◌, ◌-◌, ◌*◌, ◌/◌, ◌%◌, ◌<◌, ◌≤◌, List, ◌++◌, length, take, replicate, ◌≢◌, slice_index_or}
+use Rattle.std.specs.Prelude.{◌≡◌, ℕ, zero, suc, ◌+◌, ◌-◌, ◌*◌, ◌/◌, ◌%◌, ◌<◌, ◌≤◌, List, ◌++◌, length, take, replicate, ◌≢◌, slice_index_or, Option, Some, None, Result, Ok, Err}
 use Rattle.printing.specs.Text.{digit}
 use Rattle.vcd.specs.Form.{OfRun}
 use Rattle.vcd.specs.Follows.{Form}
 use Rattle.vcd.specs.Beginnings.{Stuck}
-use Rattle.readback.specs.declared.Found.{Found}
-use Rattle.readback.specs.declared.Found.TheVariants.{Run, Bad}
-use Rattle.readback.specs.declared.lines.Line.{Line}
+use Rattle.readback.specs.declared.Deviation.{Deviation}
 
 -- ---- bytes
 -- The byte at a place. Past the end that is 256, which no line has, so that no line goes on there.
@@ -32,11 +30,15 @@ pub record Shared (text file : List ℕ) (n : ℕ) : Type 0 where
   pub ends : n < length text → byte_at file n ≢ byte_at text n
 
 -- ---- one byte more
-pub record ByteRead (n byte wanted : ℕ) (s r : Line) : Type 0 where
-  pub value_is : r.value ≡ s.value
-  pub kept : (s.size ≢ n) → r.size ≡ s.size
-  pub stands : s.size ≡ n → byte ≡ wanted → r.size ≡ suc n
-  pub stuck : s.size ≡ n → (byte ≢ wanted) → r.size ≡ n
+-- The number of a line that stands so far, or the first place that none goes on to; and the same with the byte at the place.
+abbrev pub ByteRead : ℕ → ℕ → ℕ → Result ℕ Deviation → Result ℕ Deviation → Type 0
+ByteRead byte wanted place (Err d) r = r ≡ Err d
+ByteRead byte wanted place (Ok v) r = (byte ≡ wanted → r ≡ Ok v) × (byte ≢ wanted → r ≡ Err (record { place = place }))
+
+-- the number that is left out; none is 5,000
+abbrev pub left_out : Option ℕ → ℕ
+left_out (Some x) = x
+left_out None = 5000
 
 -- A number from low to high, other than `but`.
 pub record Allowed (low high but x : ℕ) : Type 0 where
@@ -50,13 +52,15 @@ pub record Longer (base byte p x : ℕ) : Type 0 where
   pub to : x < p * base + base
   pub byte_is : byte + p * base ≡ 48 + x
 
-pub record DigitRead (n byte base low high but : ℕ) (s r : Line) : Type 0 where
-  pub small : r.value ≤ 4096
-  pub kept : (s.size ≢ n) → r.size ≡ s.size
-  pub least : s.size ≡ n → n ≤ r.size
-  pub most : s.size ≡ n → r.size ≤ suc n
-  pub stands : s.size ≡ n → r.size ≡ suc n → Allowed low high but r.value × Longer base byte s.value r.value
-  pub stuck : s.size ≡ n → r.size ≡ n → (x : ℕ) → Allowed low high but x → Longer base byte s.value x → ⊥
+-- The number with one digit more, if that is an allowed one.
+abbrev pub NumberRead : ℕ → ℕ → ℕ → ℕ → ℕ → ℕ → Option ℕ → Type 0
+NumberRead byte base low high but p (Some x) = (x ≤ 4096) × Allowed low high but x × Longer base byte p x
+NumberRead byte base low high but p None = (x : ℕ) → Allowed low high but x → Longer base byte p x → ⊥
+
+abbrev pub DigitRead : ℕ → ℕ → ℕ → ℕ → ℕ → ℕ → Result ℕ Deviation → Result ℕ Deviation → Type 0
+DigitRead byte base low high but place (Err d) r = r ≡ Err d
+DigitRead byte base low high but place (Ok p) (Ok x) = (x ≤ 4096) × Allowed low high but x × Longer base byte p x
+DigitRead byte base low high but place (Ok p) (Err d) = (d ≡ record { place = place }) × ((x : ℕ) → Allowed low high but x → Longer base byte p x → ⊥)
 
 -- ---- a line of a kind: that of some number of the kind
 -- The first n bytes stand as they do exactly in the lines of numbers that have the quotient p by D, and there are some.
@@ -74,11 +78,17 @@ pub record Cut (line : ℕ → List ℕ) (Is : ℕ → Type 0) (file : List ℕ)
   pub same : Same file from (line some) n
   pub none : (x : ℕ) → Is x → Same file from (line x) (suc n) → ⊥
 
+-- The line is cut at a place, before n bytes of it.
+pub record CutAt (line : ℕ → List ℕ) (Is : ℕ → Type 0) (file : List ℕ) (from n p : ℕ) : Type 0 where
+  pub size : ℕ
+  pub at : p ≡ place from size
+  pub short : size < n
+  pub cut : Cut line Is file from size
+
 -- n bytes are read: they stand, or the line is cut before.
-pub record Reading (line : ℕ → List ℕ) (Is : ℕ → Type 0) (file : List ℕ) (from n D : ℕ) (r : Line) : Type 0 where
-  pub within : r.size ≤ n
-  pub goes : r.size ≡ n → Goes line Is file from n D r.value
-  pub cut : r.size < n → Cut line Is file from r.size
+unfoldable pub Reading : (ℕ → List ℕ) → (ℕ → Type 0) → List ℕ → ℕ → ℕ → ℕ → Result ℕ Deviation → Type 0
+Reading line Is file from n D (Ok p) = Goes line Is file from n D p
+Reading line Is file from n D (Err d) = CutAt line Is file from n d.place
 
 -- ---- a whole line, read four bytes at a time
 -- Four bytes as one number, the first counting least.
@@ -92,17 +102,19 @@ pub record Word (file : List ℕ) (i w : ℕ) : Type 0 where
   pub fourth : byte_at file (i + 3) < 256
   pub is : w ≡ word (byte_at file i) (byte_at file (i + 1)) (byte_at file (i + 2)) (byte_at file (i + 3))
 
--- A number up to 15 is the one that the four bytes write in binary digits,
+-- The number up to 15 that the four bytes write in binary digits,
 pub record FourBits (w r : ℕ) : Type 0 where
-  pub are : r ≤ 15 → w ≡ word (digit (r / 8 % 2)) (digit (r / 4 % 2)) (digit (r / 2 % 2)) (digit (r % 2))
+  pub few : r ≤ 15
+  pub are : w ≡ word (digit (r / 8 % 2)) (digit (r / 4 % 2)) (digit (r / 2 % 2)) (digit (r % 2))
 
--- one up to 4,096 in decimal digits,
+-- the one that they write in decimal digits,
 pub record FourDigits (w r : ℕ) : Type 0 where
-  pub are : r ≤ 4096 → w ≡ word (digit (r / 1000 % 10)) (digit (r / 100 % 10)) (digit (r / 10 % 10)) (digit (r % 10))
+  pub are : w ≡ word (digit (r / 1000 % 10)) (digit (r / 100 % 10)) (digit (r / 10 % 10)) (digit (r % 10))
 
--- and one up to 1 is the last digit of a value line that ends there.
+-- and the last digit, up to 1, of a value line that ends there.
 pub record LastBit (w r : ℕ) : Type 0 where
-  pub ends : r ≤ 1 → w ≡ word (digit r) 32 33 10
+  pub few : r ≤ 1
+  pub ends : w ≡ word (digit r) 32 33 10
 
 -- The line of a number that is no greater than the greatest stands there.
 pub record Whole (line : ℕ → List ℕ) (most : ℕ) (file : List ℕ) (from size r : ℕ) : Type 0 where
@@ -130,6 +142,6 @@ pub record Filled (old : List ℕ) (from to v : ℕ) (new : List ℕ) : Type 0 w
   pub long : length new ≡ 4096
   pub entries : take to new ≡ take from old ++ replicate (to - from) v
 
-unfoldable pub ReadAside : List ℕ → List ℕ → Found → Type 0
-ReadAside file aside (Run n) = (length (take n aside) ≡ n) × OfRun file (take n aside)
-ReadAside file aside (Bad n) = Stuck Form file n
+unfoldable pub ReadAside : List ℕ → List ℕ → Result ℕ Deviation → Type 0
+ReadAside file aside (Ok n) = (length (take n aside) ≡ n) × OfRun file (take n aside)
+ReadAside file aside (Err d) = Stuck Form file d.place

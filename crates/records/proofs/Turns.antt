@@ -1,94 +1,90 @@
 -- One turn of the loop over the bytes, as laws over plain values.
-use mathlib.Core.Path.{◌≡◌, sym, ap, subst, ◌∙◌}
-use mathlib.Core.Bool.{true, false, true≢false}
+use mathlib.Core.Path.{◌≡◌, refl, sym, ap, subst, ◌∙◌}
+use mathlib.Core.Bool.{false, true}
 use mathlib.Core.List.{List, [], ◌∷◌}
-use mathlib.Core.Logic.{⊎_elim}
-use Prim.Native.Nat.{ℕ, suc, ◌+◌, ◌≤◌, ◌<◌}
+use Prim.Native.Nat.{ℕ, ◌+◌, ◌-◌, ◌≤◌, ◌<◌}
 use native.Mathlib.Omega.{arith}
-use native.Mathlib.Numerals.{add-one}
-use lib.ListN.{length, get_or, drop, drop_of_length-le, get_or-eq_default}
-use lib.Seq.{drop-cons, get_or-drop, drop-drop}
-use Rattle.basis.specs.Choose.{choose_either, le_or_lt}
+use lib.ListN.{length, get_or, take, drop}
+use Rattle.std.proofs.lemmas.List.{take_all}
+use Rattle.std.specs.Prelude.{Option, Some, None, Result, Ok, Err, eqb}
+use Rattle.std.proofs.Common.{ne_eqb, eqb-true}
+use Rattle.basis.specs.Choose.{both_false}
+use Rattle.tasks.specs.declared.Task.{Task}
 use Rattle.tasks.specs.declared.TaskList.{TaskList}
 use Rattle.tasks.specs.List.{list_of}
-use Rattle.records.specs.declared.Form.{Form}
-use Rattle.records.specs.declared.Form.TheVariants.{Good, Bad}
-use Rattle.records.specs.declared.Parsed.{Parsed}
+use Rattle.records.specs.declared.BadLine.{BadLine}
 use Rattle.records.specs.declared.Line.{Line}
 use Rattle.records.specs.Grammar.{read_of, Reads}
 use Rattle.records.specs.LineEnds.{is_pair, lines_of}
 use Rattle.records.proofs.LineEnds.{lines_pair, lines_byte}
-use Rattle.records.specs.Shapes.{fresh, with_byte, kept, close_good, close_as, close_line, at_end, read_from, nothing, parsed_of}
-use Rattle.records.proofs.Reading.{byte_read, fresh_read, line_read, parsed_reads}
+use Rattle.records.specs.Shapes.{fresh, with_byte, row_of, close_as, close_line, at_end, read_from, parsed_of}
+use Rattle.records.proofs.Reading.{byte_read, fresh_read, good_read, bad_stays, parsed_reads}
 
 -- What is left to read comes to the answer of the whole input; and each line that is counted took the two bytes of its CRLF.
-pub record Reached (input : List ℕ) (read : Parsed) (line : Line) (i : ℕ) : Type 0 where
-  pub within : i ≤ length input
-  pub left : read_from read line (lines_of (drop i input)) ≡ parsed_of input
-  pub counted : read.list.count + read.list.count ≤ i
+pub record Reached (input : List ℕ) (list : TaskList) (line : Option Line) (rest : List ℕ) : Type 0 where
+  pub left : read_from list line (lines_of rest) ≡ parsed_of input
+  pub counted : list.count + list.count + length rest ≤ length input
 
-line_by_form : (f : Form) (p : Parsed) (s : Line) → (close_as f p s).list.count ≤ p.list.count + 1
-unfolding close_as close_good kept list_of
-line_by_form Good p s =
-    choose_either (λ (x : Parsed). x.list.count ≤ p.list.count + 1) _ _ _
-    (choose_either (λ (x : TaskList). x.count ≤ p.list.count + 1) _ _ _ (omega arith) (omega arith))
-    (omega arith)
-line_by_form (Bad n) p s = omega arith
+-- CRLF at the head of what is left.
+pub record Headed (rest : List ℕ) : Type 0 where
+  pub two : 2 ≤ length rest
+  pub cr : get_or rest 0 0 ≡ 13
+  pub lf : get_or rest 1 0 ≡ 10
 
-one_line_more : (p : Parsed) (s : Line) → (close_line p s).list.count ≤ p.list.count + 1
-unfolding close_line
-one_line_more p s = line_by_form p.form p s
-
-pub no_byte_yet : (input : List ℕ) (l : TaskList) (s : Line) → l ≡ list_of [] → s ≡ fresh → Reached input (record { form = Good; list = l }) s 0
-unfolding parsed_of nothing list_of
-no_byte_yet input l s el es =
-    rw (el, es) (record { within = omega arith; left = fresh_read nothing (lines_of input); counted = omega arith })
-
--- a pair stands within the input
-pub pair_inside : (input : List ℕ) (i : ℕ) → is_pair (get_or input i 0) (get_or input (i + 1) 0) ≡ true → i + 1 < length input
+pair : (b c : ℕ) (rest : List ℕ) → Headed (b ∷ c ∷ rest) → is_pair b c ≡ true
 unfolding is_pair
-pair_inside input i t =
-    ⊎_elim
-    (λ (o : length input ≤ i + 1). absurd (true≢false (sym t ∙ ap (is_pair (get_or input i 0)) (get_or-eq_default input 0 o))))
-    (λ (k : i + 1 < length input). k)
-    (le_or_lt (length input) (i + 1))
+pair b c rest h = let eb : b ≡ 13 = h.cr in let ec : c ≡ 10 = h.lf in rw (eb, ec) refl
 
-module _ (input : List ℕ) (i : ℕ) (p : Parsed) (s : Line) (l : i < length input) (R : Reached input p s i) where
-  -- the byte, and what stands behind it
-  behind : get_or (drop (suc i) input) 0 0 ≡ get_or input (i + 1) 0
-  behind = get_or-drop (suc i) input 0 0 ∙ ap (λ (j : ℕ). get_or input j 0) (omega arith)
+no_pair : (b : ℕ) (rest : List ℕ) → (Headed (b ∷ rest) → ⊥) → is_pair b (get_or rest 0 0) ≡ false
+unfolding is_pair
+no_pair b [] h = refl
+no_pair b (c ∷ rest) h =
+    (both_false (eqb c 10) (eqb b 13)).1 (λ t. ne_eqb b 13 (λ e. h (record { two = omega arith; cr = e; lf = eqb-true c 10 t })))
 
-  here : read_from p s (lines_of (get_or input i 0 ∷ drop (suc i) input)) ≡ parsed_of input
-  here = ap (λ (x : List ℕ). read_from p s (lines_of x)) (sym (drop-cons input i 0 l)) ∙ R.left
+-- Where the whole input's answer is known, it is the grammar's.
+pub answered : (input : List ℕ) (r : Result TaskList BadLine) → r ≡ parsed_of input → Reads input (read_of r)
+answered input r e = subst (λ (x : Result TaskList BadLine). Reads input (read_of x)) (sym e) (parsed_reads input)
 
-  pub line_ends : (q : Parsed) (n : Line) → is_pair (get_or input i 0) (get_or input (i + 1) 0) ≡ true → q ≡ close_line p s → n ≡ fresh → Reached input q n (i + 2)
-  line_ends q n t eq en =
-      let two : i + 2 ≡ suc i + 1 = omega arith in
-      rw (eq, en)
+pub no_byte_yet : (input : List ℕ) (l : TaskList) (s : Line) → l ≡ list_of [] → s ≡ fresh → Reached input l (Some s) input
+unfolding parsed_of list_of
+no_byte_yet input l s el es =
+    rw (el, es) (record { left = fresh_read (list_of []) (lines_of input); counted = omega arith })
+
+line_counted : (l : TaskList) (o : Option Task) (m : TaskList) → close_as l o ≡ Ok m → m.count ≡ l.count + 1
+line_counted l (Some t) m e = grind (arith, e)
+line_counted l None m e = grind (arith, e)
+
+module _ {input : List ℕ} {l : TaskList} {s : Option Line} where
+  -- CRLF ends a line, which is good,
+  pub line_ends : (m : TaskList) (n : Line) (rest behind : List ℕ) → Headed rest → behind ≡ take (length rest - 2) (drop 2 rest) → Reached input l s rest → close_line l s ≡ Ok m → n ≡ fresh → Reached input m (Some n) behind
+  line_ends m n (b ∷ c ∷ rest) behind h eb R good en =
+      let whole : behind ≡ rest = eb ∙ take_all (length (b ∷ c ∷ rest) - 2) rest (omega arith) in
+      rw (en, whole)
       (record {
-        within = omega (arith, pair_inside input i t);
-        left =
-            ap (λ (x : List ℕ). read_from (close_line p s) fresh (lines_of x)) (ap (λ (j : ℕ). drop j input) two ∙ sym (drop-drop 1 (suc i) input))
-            ∙ line_read p s (lines_of (drop 1 (drop (suc i) input)))
-            ∙ ap (read_from p s) (sym (lines_pair (get_or input i 0) (drop (suc i) input) (ap (is_pair (get_or input i 0)) behind ∙ t)))
-            ∙ here;
-        counted = omega (arith, one_line_more p s, R.counted);
+        left = good_read l s m (lines_of rest) good ∙ ap (read_from l s) (sym (lines_pair b (c ∷ rest) (pair b c rest h))) ∙ R.left;
+        counted = omega (arith, R.counted, line_counted l (row_of s) m good);
       })
+  line_ends m n [] behind h eb R good en = absurd (omega (arith, h.two))
+  line_ends m n (b ∷ []) behind h eb R good en = absurd (omega (arith, h.two))
 
-  pub line_goes_on : (n : Line) → is_pair (get_or input i 0) (get_or input (i + 1) 0) ≡ false → n ≡ with_byte s (get_or input i 0) → Reached input p n (i + 1)
-  line_goes_on n f en =
-      rw (en, add-one)
-      (record {
-        within = l;
-        left =
-            byte_read p s (get_or input i 0) (lines_of (drop (suc i) input))
-            ∙ ap (read_from p s) (sym (lines_byte (get_or input i 0) (drop (suc i) input) (ap (is_pair (get_or input i 0)) behind ∙ f)))
-            ∙ here;
+  -- or the first bad one;
+  pub line_named : (bad : BadLine) (rest : List ℕ) → Headed rest → Reached input l s rest → close_line l s ≡ Err bad → Reads input (read_of (Err bad))
+  line_named bad (b ∷ c ∷ rest) h R e =
+      answered input (Err bad) (bad_stays l s bad (lines_of rest) e ∙ ap (read_from l s) (sym (lines_pair b (c ∷ rest) (pair b c rest h))) ∙ R.left)
+  line_named bad [] h R e = absurd (omega (arith, h.two))
+  line_named bad (b ∷ []) h R e = absurd (omega (arith, h.two))
+
+  -- any other byte belongs to it.
+  pub line_goes_on : (n : Option Line) (rest : List ℕ) → 1 ≤ length rest → (Headed rest → ⊥) → Reached input l s rest → n ≡ with_byte s (get_or rest 0 0) → Reached input l n (take (length rest - 1) (drop 1 rest))
+  line_goes_on n (b ∷ rest) one h R en =
+      let whole : rest ≡ take (length (b ∷ rest) - 1) rest = sym (take_all (length (b ∷ rest) - 1) rest (omega arith)) in
+      rw en (subst (Reached input l (with_byte s b)) whole (record {
+        left = byte_read l s b (lines_of rest) ∙ ap (read_from l s) (sym (lines_byte b rest (no_pair b rest h))) ∙ R.left;
         counted = omega (arith, R.counted);
-      })
+      }))
+  line_goes_on n [] one h R en = absurd (omega arith)
 
-pub no_byte_more : (input : List ℕ) (i : ℕ) (p q : Parsed) (s : Line) → length input ≤ i → Reached input p s i → q ≡ at_end p s → Reads input (read_of q)
-unfolding read_from lines_of
-no_byte_more input i p q s l R e =
-    let all = e ∙ ap (λ (x : List ℕ). read_from p s (lines_of x)) (sym (drop_of_length-le input l)) ∙ R.left in
-    subst (λ (r : Parsed). Reads input (read_of r)) (sym all) (parsed_reads input)
+  pub no_byte_more : (r : Result TaskList BadLine) (rest : List ℕ) → length rest < 1 → Reached input l s rest → r ≡ at_end l s → Reads input (read_of r)
+  unfolding read_from lines_of
+  no_byte_more r [] none R e = answered input r (e ∙ R.left)
+  no_byte_more r (b ∷ rest) none R e = absurd (omega arith)

@@ -3,13 +3,12 @@ use Rattle.std.specs.Prelude.{◌≡◌, List, [], ◌∷◌, ◌++◌, ℕ, zer
 use Rattle.std.proofs.Common.{subst}
 use Prim.Native.Char.{code}
 use Prim.Native.String.{String, [] as none, ◌∷◌ as ◌then◌}
-use Rattle.basis.specs.Choose.{choose}
 use Rattle.basis.specs.Bytes.{overwrite}
 use Rattle.basis.specs.Answer.{refusal, none as nothing-refused}
 use Rattle.tasks.specs.declared.Task.{Task}
 use Rattle.tasks.specs.List.{list_of, task_at, no_task}
-use Rattle.records.specs.Grammar.{Read, accepted, refused, form_answer, read_of, Reads}
-use Rattle.records.specs.Shapes.{with_digit, with_comma, with_byte, line_from, task_of, kept, close_good, close_as, close_line, read_lines, nothing, parsed_of}
+use Rattle.records.specs.Grammar.{Read, accepted, refused, form_answer, list_read, read_of, Reads}
+use Rattle.records.specs.Shapes.{line_from, read_lines, parsed_of}
 use Rattle.records.specs.LineEnds.{is_pair, push, lines_of}
 use Rattle.records.proofs.Reading.{parsed_reads}
 
@@ -55,5 +54,5 @@ pub worked :
     × Reads (bytes "\"2\",1,0") (refused 1)
     × Reads (bytes "2,1,0\r\nx\r\n3,1,0\r\ny") (refused 2)
     × Reads (times 299 (bytes "2,1,0\r\n") ++ bytes "x\r\n2,1,0") (refused 300)
-unfolding read_of form_answer accepted refused refusal nothing-refused with_digit with_comma with_byte line_from task_of kept close_good close_as close_line read_lines nothing parsed_of is_pair push lines_of list_of task_at no_task overwrite choose
+unfolding read_of form_answer list_read accepted refused refusal nothing-refused line_from read_lines parsed_of is_pair push lines_of list_of task_at no_task overwrite
 worked = search read_so

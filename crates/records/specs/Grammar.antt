@@ -1,12 +1,10 @@
 -- The form of the program's input, in the scope paper's words: field, line, the lines of an input, and what reading one answers.
-use Rattle.std.specs.Prelude.{◌≡◌, List, [], ◌∷◌, ◌++◌, ◌⊎◌, ℕ, suc, ◌+◌, ◌-◌, ◌*◌, ◌≤◌, ◌<◌, length, get_or}
+use Rattle.std.specs.Prelude.{◌≡◌, Result, Ok, Err, List, [], ◌∷◌, ◌++◌, ◌⊎◌, ℕ, suc, ◌+◌, ◌-◌, ◌*◌, ◌≤◌, ◌<◌, length, get_or}
 use Rattle.basis.specs.Answer.{Answer, refusal, none}
 use Rattle.tasks.specs.declared.Task.{Task}
 use Rattle.tasks.specs.declared.TaskList.{TaskList}
 use Rattle.tasks.specs.List.{list_of}
-use Rattle.records.specs.declared.Form.{Form}
-use Rattle.records.specs.declared.Form.TheVariants.{Good, Bad}
-use Rattle.records.specs.declared.Parsed.{Parsed}
+use Rattle.records.specs.declared.BadLine.{BadLine}
 
 -- the bytes that part fields and lines
 abbrev pub comma : ℕ
@@ -78,12 +76,17 @@ unfoldable pub refused : ℕ → Read
 refused n = record { answer = refusal 15 n; list = list_of [] }
 
 -- The paper's values of each case.
-unfoldable pub form_answer : Form → Answer
-form_answer Good = none
-form_answer (Bad n) = refusal 15 n
+unfoldable pub form_answer : Result TaskList BadLine → Answer
+form_answer (Ok l) = none
+form_answer (Err bad) = refusal 15 bad.line
 
-unfoldable pub read_of : Parsed → Read
-read_of r = record { answer = form_answer r.form; list = r.list }
+-- the list, of an input with a bad line that of no tasks
+unfoldable pub list_read : Result TaskList BadLine → TaskList
+list_read (Ok l) = l
+list_read (Err bad) = list_of []
+
+unfoldable pub read_of : Result TaskList BadLine → Read
+read_of r = record { answer = form_answer r; list = list_read r }
 
 -- What reading an input answers: the list of the tasks if every line is in form; else refusal 15 for the first line that is not,
 -- counted from 1.

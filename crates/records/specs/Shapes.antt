@@ -1,47 +1,46 @@
 -- Shaped like the code, for private contracts alone: the line after one byte more and the answer after one line more, tied to the
 -- grammar in Reading.
-use Rattle.std.specs.Prelude.{◌≡◌, Bool, true, false, ◌&&◌, ◌||◌, not, List, [], ◌∷◌, ℕ, ◌+◌, ◌-◌, ◌*◌, ◌≤◌, ◌<◌, eqb, leb, ltb, set}
-use Rattle.std.proofs.Common.{leb-true, leb-false}
-use Rattle.basis.specs.Choose.{choose, both_true, either_false}
+use Rattle.std.specs.Prelude.{◌≡◌, Bool, true, false, ◌&&◌, ◌||◌, Option, Some, None, Result, Ok, Err, List, [], ◌∷◌, ℕ, ◌+◌, ◌-◌, ◌*◌, ◌≤◌, eqb, leb, ltb, if◌then◌else◌, set, unwrap_or}
+use Rattle.std.proofs.Common.{leb-true}
+use Rattle.basis.specs.Choose.{both_true}
 use Rattle.tasks.specs.declared.Task.{Task}
 use Rattle.tasks.specs.declared.TaskList.{TaskList}
 use Rattle.tasks.specs.List.{list_of}
-use Rattle.records.specs.declared.Form.{Form}
-use Rattle.records.specs.declared.Form.TheVariants.{Good, Bad}
-use Rattle.records.specs.declared.Parsed.{Parsed}
+use Rattle.records.specs.declared.BadLine.{BadLine}
+use Rattle.records.specs.declared.Place.{Place}
+use Rattle.records.specs.declared.Place.TheVariants.{Period, Runtime, Memory, Deadline}
 use Rattle.records.specs.declared.Line.{Line}
 use Rattle.records.specs.LineEnds.{lines_of}
 
 abbrev pub fresh : Line
-fresh = record { closed = 0; digits = false; value = 0; period = 0; runtime = 0; memory = 0 }
-
--- Out of form for good: no comma closes its field, and no digit finds room in it.
-abbrev pub spoilt : Line
-spoilt = record { closed = 4; digits = false; value = 100000000; period = 0; runtime = 0; memory = 0 }
+fresh = record { place = Period; value = None }
 
 -- ---- a byte within a line
-abbrev pub full : Bool → ℕ → Bool
-full digits value = leb 100000000 value || (eqb value 0 && digits)
+-- No digit may follow: the field is "0", or has nine digits.
+abbrev pub full : Option ℕ → Bool
+full None = false
+full (Some v) = eqb v 0 || leb 100000000 v
 
-pub not_full : (d : Bool) (v : ℕ) → full d v ≡ false → v < 100000000
-not_full d v h = leb-false 100000000 v ((either_false (leb 100000000 v) _).0 h).0
+abbrev pub with_digit : Line → ℕ → Option Line
+with_digit s d = if full s.value then None else Some (record { place = s.place; value = Some (unwrap_or s.value 0 * 10 + d) })
 
-unfoldable pub with_digit : Line → ℕ → Line
-with_digit s b =
-    choose (full s.digits s.value) spoilt
-    (record { closed = s.closed; digits = true; value = s.value * 10 + (b - 48); period = s.period; runtime = s.runtime; memory = s.memory })
+-- the place after a comma
+abbrev pub next_place : Place → ℕ → Option Place
+next_place Period v = Some (Runtime v)
+next_place (Runtime p) v = Some (Memory p v)
+next_place (Memory p r) v = Some (Deadline p r v)
+next_place (Deadline p r m) v = None
 
--- A comma may follow: the open field has a digit and is not the fourth.
-abbrev pub closable : Line → Bool
-closable s = s.digits && ltb s.closed 3
+abbrev pub opened : Option Place → Option Line
+opened None = None
+opened (Some p) = Some (record { place = p; value = None })
 
-unfoldable pub with_comma : Line → Line
-with_comma s =
-    choose (closable s)
-    (choose (eqb s.closed 0) (record { closed = 1; digits = false; value = 0; period = s.value; runtime = 0; memory = 0 })
-    (choose (eqb s.closed 1) (record { closed = 2; digits = false; value = 0; period = s.period; runtime = s.value; memory = 0 })
-    (record { closed = 3; digits = false; value = 0; period = s.period; runtime = s.runtime; memory = s.value })))
-    spoilt
+abbrev pub closed_by : Place → Option ℕ → Option Line
+closed_by p None = None
+closed_by p (Some v) = opened (next_place p v)
+
+abbrev pub with_comma : Line → Option Line
+with_comma s = closed_by s.place s.value
 
 abbrev pub is_digit : ℕ → Bool
 is_digit b = leb 48 b && leb b 57
@@ -49,63 +48,69 @@ is_digit b = leb 48 b && leb b 57
 pub digit_tells : (b : ℕ) → is_digit b ≡ true → (48 ≤ b) × (b ≤ 57)
 digit_tells b t = let e = (both_true (leb 48 b) (leb b 57)).0 t in (leb-true 48 b e.0, leb-true b 57 e.1)
 
-unfoldable pub with_byte : Line → ℕ → Line
-with_byte s b = choose (eqb b 44) (with_comma s) (choose (is_digit b) (with_digit s b) spoilt)
+abbrev pub with_byte : Option Line → ℕ → Option Line
+with_byte None b = None
+with_byte (Some s) b = if eqb b 44 then with_comma s else (if is_digit b then with_digit s (b - 48) else None)
 
 -- the line after its bytes
-unfoldable pub line_from : Line → List ℕ → Line
+unfoldable pub line_from : Option Line → List ℕ → Option Line
 line_from s [] = s
 line_from s (b ∷ bs) = line_from (with_byte s b) bs
 
-abbrev pub complete : Line → Bool
-complete s = (leb 2 s.closed && leb s.closed 3) && s.digits
+-- ---- a line that ends
+abbrev pub made_of : Place → Option ℕ → Option Task
+made_of (Memory p r) (Some v) = Some (record { period = p; runtime = r; memory = v; deadline = p })
+made_of (Deadline p r m) (Some v) = Some (record { period = p; runtime = r; memory = m; deadline = v })
+made_of Period v = None
+made_of (Runtime p) v = None
+made_of (Memory p r) None = None
+made_of (Deadline p r m) None = None
 
-abbrev pub begun : Line → Bool
-begun s = s.digits || not (eqb s.closed 0)
+abbrev pub task_of : Line → Option Task
+task_of s = made_of s.place s.value
 
-unfoldable pub task_of : Line → Task
-task_of s =
-    choose (eqb s.closed 2) (record { period = s.period; runtime = s.runtime; memory = s.value; deadline = s.period })
-    (record { period = s.period; runtime = s.runtime; memory = s.memory; deadline = s.value })
+abbrev pub row_of : Option Line → Option Task
+row_of None = None
+row_of (Some s) = task_of s
 
--- ---- a line ends
-unfoldable pub kept : TaskList → Task → TaskList
-kept l t = choose (ltb l.count 16) (record { tasks = set l.tasks l.count t; count = l.count + 1 }) (record { tasks = l.tasks; count = l.count + 1 })
+abbrev pub kept : TaskList → Task → TaskList
+kept l t = record { tasks = (if ltb l.count 16 then set l.tasks l.count t else l.tasks); count = l.count + 1 }
 
-unfoldable pub close_good : TaskList → Line → Parsed
-close_good l s =
-    choose (complete s) (record { form = Good; list = kept l (task_of s) }) (record { form = Bad (l.count + 1); list = list_of [] })
+abbrev pub close_as : TaskList → Option Task → Result TaskList BadLine
+close_as l (Some t) = Ok (kept l t)
+close_as l None = Err (record { line = l.count + 1 })
 
-unfoldable pub close_as : Form → Parsed → Line → Parsed
-close_as Good p s = close_good p.list s
-close_as (Bad n) p s = p
-
-unfoldable pub close_line : Parsed → Line → Parsed
-close_line p s = close_as p.form p s
-
-pub good_closes : (p : Parsed) (s : Line) → p.form ≡ Good → close_line p s ≡ close_good p.list s
-unfolding close_line close_as
-good_closes p s e = rw e
-
-pub bad_stays : (p : Parsed) (s : Line) (n : ℕ) → p.form ≡ Bad n → close_line p s ≡ p
-unfolding close_line close_as
-bad_stays p s n e = rw e
+abbrev pub close_line : TaskList → Option Line → Result TaskList BadLine
+close_line l s = close_as l (row_of s)
 
 -- What follows the last pair is one line more, unless it is nothing.
-unfoldable pub at_end : Parsed → Line → Parsed
-at_end p s = choose (begun s) (close_line p s) p
+abbrev pub begun_at : Place → Option ℕ → Bool
+begun_at Period None = false
+begun_at Period (Some v) = true
+begun_at (Runtime p) v = true
+begun_at (Memory p r) v = true
+begun_at (Deadline p r m) v = true
+
+abbrev pub begun : Option Line → Bool
+begun None = true
+begun (Some s) = begun_at s.place s.value
+
+abbrev pub at_end : TaskList → Option Line → Result TaskList BadLine
+at_end l s = if begun s then close_line l s else Ok l
 
 -- ---- the answer after whole lines, and after lines of which the first is open
-unfoldable pub read_lines : Parsed → List (List ℕ) → Parsed
-read_lines p [] = p
-read_lines p (l ∷ ls) = read_lines (close_line p (line_from fresh l)) ls
+-- The first bad line stays named whatever the later ones are.
+abbrev pub close_after : Result TaskList BadLine → Option Line → Result TaskList BadLine
+close_after (Ok l) s = close_line l s
+close_after (Err bad) s = Err bad
 
-unfoldable pub read_from : Parsed → Line → List (List ℕ) → Parsed
-read_from p s [] = at_end p s
-read_from p s (l ∷ ls) = read_lines (close_line p (line_from s l)) ls
+unfoldable pub read_lines : Result TaskList BadLine → List (List ℕ) → Result TaskList BadLine
+read_lines r [] = r
+read_lines r (l ∷ ls) = read_lines (close_after r (line_from (Some fresh) l)) ls
 
-unfoldable pub nothing : Parsed
-nothing = record { form = Good; list = list_of [] }
+unfoldable pub read_from : TaskList → Option Line → List (List ℕ) → Result TaskList BadLine
+read_from l s [] = at_end l s
+read_from l s (x ∷ xs) = read_lines (close_line l (line_from s x)) xs
 
-unfoldable pub parsed_of : List ℕ → Parsed
-parsed_of input = read_lines nothing (lines_of input)
+unfoldable pub parsed_of : List ℕ → Result TaskList BadLine
+parsed_of input = read_lines (Ok (list_of [])) (lines_of input)

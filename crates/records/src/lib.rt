@@ -1,137 +1,100 @@
 // The program's input, from bytes to a task list: three or four decimal fields a line, lines parted by the pair CRLF.
 #![tactic(auto)]
 
-ghost use Rattle.std.specs.Prelude.{◌≡◌, [], ◌+◌, ◌≤◌, ◌<◌, length, get_or};
+ghost use Rattle.std.specs.Prelude.{◌≡◌, [], ◌-◌, ◌≤◌, ◌<◌};
 ghost use Rattle.tasks.specs.List.{list_of};
 ghost use Rattle.records.specs.Grammar.{read_of, Reads};
-ghost use Rattle.records.specs.Shapes.{fresh, spoilt, with_digit, with_comma, with_byte, task_of, kept, close_good, close_line, at_end};
-ghost use Rattle.records.specs.LineEnds.{is_pair};
+ghost use Rattle.records.specs.Shapes.{fresh, with_digit, with_comma, with_byte, task_of, kept, close_line, at_end};
 
 use tasks::{Task, TaskList};
 
-// Every line in form, or the number of the first that is not, counted from 1.
-#[derive(Clone, Copy)]
-pub enum Form {
-    Good,
-    Bad(usize),
+// The first line that is not in form, counted from 1.
+#[derive(Clone, Copy, PartialEq, Eq)]
+pub struct BadLine {
+    pub line: usize,
 }
 
-// The form, and the list beside it: of an input with a bad line, the list of no tasks.
+// The field that is open, with the values of those closed before it.
 #[derive(Clone, Copy)]
-pub struct Parsed {
-    pub form: Form,
-    pub list: TaskList,
+enum Place {
+    Period,
+    Runtime {
+        period: u32,
+    },
+    Memory {
+        period: u32,
+        runtime: u32,
+    },
+    Deadline {
+        period: u32,
+        runtime: u32,
+        memory: u32,
+    },
 }
 
-// A line as far as it is read: how many fields are closed (4 once it is out of form), whether the open field has a digit and what
-// it is worth so far, and the first three fields.
+// A line as far as it is read: the open field, and what its digits are worth so far. Where a line may be None, it is out of form.
 #[derive(Clone, Copy)]
 struct Line {
-    closed: u32,
-    digits: bool,
-    value: u32,
-    period: u32,
-    runtime: u32,
-    memory: u32,
+    place: Place,
+    value: Option<u32>,
 }
 
 fn fresh_line() -> Line
     ensures { result ≡ fresh }
 {
     Line {
-        closed: 0,
-        digits: false,
-        value: 0,
-        period: 0,
-        runtime: 0,
-        memory: 0,
-    }
-}
-
-// Out of form for good: no comma closes its field, and no digit finds room in it.
-fn spoilt_line() -> Line
-    ensures { result ≡ spoilt }
-{
-    Line {
-        closed: 4,
-        digits: false,
-        value: 100000000,
-        period: 0,
-        runtime: 0,
-        memory: 0,
+        place: Place::Period,
+        value: None,
     }
 }
 
 // No digit may follow where the field is "0", or has nine digits.
-fn with_digit(line: Line, byte: u8) -> Line
-    requires le_byte { 48 ≤ byte }
-    requires byte_bound { byte ≤ 57 }
-    ensures { result ≡ with_digit line byte }
+fn with_digit(line: Line, digit: u8) -> Option<Line>
+    requires { digit ≤ 9 }
+    ensures { result ≡ with_digit line digit }
 {
-    let value = line.value;
-    if (100000000 <= value) | ((value == 0) & line.digits) {
-        return spoilt_line();
-    }
-    Line {
-        closed: line.closed,
-        digits: true,
-        value: value * 10 + (byte - 48) as u32,
-        period: line.period,
-        runtime: line.runtime,
-        memory: line.memory,
-    }
+    let before = match line.value {
+        None => 0,
+        Some(0 | 100_000_000..) => return None,
+        Some(value) => value,
+    };
+    Some(Line {
+        value: Some(before * 10 + u32::from(digit)),
+        ..line
+    })
 }
 
 // A comma closes the open field, if that has a digit and is not the fourth.
-fn with_comma(line: Line) -> Line
+fn with_comma(line: Line) -> Option<Line>
     ensures { result ≡ with_comma line }
 {
-    let closed = line.closed;
-    let value = line.value;
-    if line.digits & (closed < 3) {
-        if closed == 0 {
-            return Line {
-                closed: 1,
-                digits: false,
-                value: 0,
-                period: value,
-                runtime: 0,
-                memory: 0,
-            };
-        }
-        if closed == 1 {
-            return Line {
-                closed: 2,
-                digits: false,
-                value: 0,
-                period: line.period,
-                runtime: value,
-                memory: 0,
-            };
-        }
-        return Line {
-            closed: 3,
-            digits: false,
-            value: 0,
-            period: line.period,
-            runtime: line.runtime,
+    let value = line.value?;
+    let place = match line.place {
+        Place::Period => Place::Runtime { period: value },
+        Place::Runtime { period } => Place::Memory {
+            period,
+            runtime: value,
+        },
+        Place::Memory { period, runtime } => Place::Deadline {
+            period,
+            runtime,
             memory: value,
-        };
-    }
-    spoilt_line()
+        },
+        Place::Deadline { .. } => return None,
+    };
+    Some(Line { place, value: None })
 }
 
-// One byte more in a line: 44 is the comma, 48 to 57 are the digits, and nothing else is in form.
-fn with_byte(line: Line, byte: u8) -> Line
+// One byte more in a line.
+fn with_byte(line: Option<Line>, byte: u8) -> Option<Line>
     ensures { result ≡ with_byte line byte }
 {
-    if byte == 44 {
-        return with_comma(line);
+    let line = line?;
+    match byte {
+        b',' => with_comma(line),
+        b'0'..=b'9' => with_digit(line, byte - b'0'),
+        _ => None,
     }
-    if (48 <= byte) & (byte <= 57) {
-        return with_digit(line, byte);
-    }
-    spoilt_line()
 }
 
 fn no_tasks() -> TaskList
@@ -149,22 +112,30 @@ fn no_tasks() -> TaskList
 }
 
 // The task of a line in form: with three fields its deadline is the period, with four it is the fourth.
-fn task_of(line: Line) -> Task
+fn task_of(line: Line) -> Option<Task>
     ensures { result ≡ task_of line }
 {
-    if line.closed == 2 {
-        return Task {
-            period: line.period,
-            runtime: line.runtime,
-            memory: line.value,
-            deadline: line.period,
-        };
-    }
-    Task {
-        period: line.period,
-        runtime: line.runtime,
-        memory: line.memory,
-        deadline: line.value,
+    match (line.place, line.value) {
+        (Place::Memory { period, runtime }, Some(memory)) => Some(Task {
+            period,
+            runtime,
+            memory,
+            deadline: period,
+        }),
+        (
+            Place::Deadline {
+                period,
+                runtime,
+                memory,
+            },
+            Some(deadline),
+        ) => Some(Task {
+            period,
+            runtime,
+            memory,
+            deadline,
+        }),
+        _ => None,
     }
 }
 
@@ -173,14 +144,9 @@ fn keep(list: TaskList, task: Task) -> TaskList
     requires { list.count < 18446744073709551615 }
     ensures { result ≡ kept list task }
 {
-    let mut tasks = list.tasks;
-    let count = list.count;
-    if count < 16 {
+    let TaskList { mut tasks, count } = list;
+    if count < tasks.len() {
         tasks[count] = task;
-        return TaskList {
-            tasks,
-            count: count + 1,
-        };
     }
     TaskList {
         tasks,
@@ -188,84 +154,51 @@ fn keep(list: TaskList, task: Task) -> TaskList
     }
 }
 
-fn close_good(list: TaskList, line: Line) -> Parsed
+// A line ends.
+fn close_line(list: TaskList, line: Option<Line>) -> Result<TaskList, BadLine>
     requires { list.count < 18446744073709551615 }
-    ensures { result ≡ close_good list line }
+    ensures { result ≡ close_line list line }
 {
-    let closed = line.closed;
-    if (2 <= closed) & (closed <= 3) & line.digits {
-        let task = task_of(line);
-        let list = keep(list, task);
-        return Parsed {
-            form: Form::Good,
-            list,
-        };
-    }
-    let none = no_tasks();
-    Parsed {
-        form: Form::Bad(list.count + 1),
-        list: none,
-    }
-}
-
-// A line ends. The first bad one stays named whatever the later ones are.
-fn close_line(read: Parsed, line: Line) -> Parsed
-    requires { read.list.count < 18446744073709551615 }
-    ensures { result ≡ close_line read line }
-{
-    let form = read.form;
-    let list = read.list;
-    match form {
-        Form::Good => close_good(list, line),
-        Form::Bad(_) => read,
-    }
-}
-
-// Byte 13 and byte 10 right behind it, CRLF, part the lines. Either alone is a byte of its line, and out of form.
-fn is_pair(input: &[u8], i: usize) -> bool
-    requires { i < length input.now }
-    ensures { result ≡ is_pair (get_or input.now i 0) (get_or input.now (i + 1) 0) }
-{
-    let next = i + 1;
-    if next < input.len() {
-        (input[next] == 10) & (input[i] == 13)
-    } else {
-        false
+    match line.and_then(task_of) {
+        Some(task) => Ok(keep(list, task)),
+        None => Err(BadLine {
+            line: list.count + 1,
+        }),
     }
 }
 
 // What follows the last CRLF is one line more, unless it is nothing.
-fn at_end(read: Parsed, line: Line) -> Parsed
-    requires { read.list.count < 18446744073709551615 }
-    ensures { result ≡ at_end read line }
+fn at_end(list: TaskList, line: Option<Line>) -> Result<TaskList, BadLine>
+    requires { list.count < 18446744073709551615 }
+    ensures { result ≡ at_end list line }
 {
-    if line.digits | (line.closed != 0) {
-        return close_line(read, line);
+    match line {
+        Some(
+            Line {
+                place: Place::Period,
+                value: None,
+            },
+        ) => Ok(list),
+        _ => close_line(list, line),
     }
-    read
 }
 
-pub fn read_list(input: &[u8]) -> Parsed
+// CRLF parts the lines. Either byte alone is one of its line, and out of form.
+pub fn read_list(input: &[u8]) -> Result<TaskList, BadLine>
     ensures { Reads input.now (read_of result) }
 {
-    let none = no_tasks();
-    let mut read = Parsed {
-        form: Form::Good,
-        list: none,
-    };
-    let mut line = fresh_line();
-    let mut i = 0;
-    while i < input.len() {
-        if is_pair(input, i) {
-            let next = close_line(read, line);
-            read = next;
-            line = fresh_line();
-            i += 2;
-            continue;
+    let mut list = no_tasks();
+    let mut line = Some(fresh_line());
+    let mut rest = input;
+    while let [byte, after @ ..] = rest {
+        if let [b'\r', b'\n', behind @ ..] = rest {
+            list = close_line(list, line)?;
+            line = Some(fresh_line());
+            rest = behind;
+        } else {
+            line = with_byte(line, *byte);
+            rest = after;
         }
-        let longer = with_byte(line, input[i]);
-        line = longer;
-        i += 1;
     }
-    at_end(read, line)
+    at_end(list, line)
 }

@@ -1,29 +1,46 @@
 -- What a step comes to at each way out, as laws over plain values.
-use Rattle.std.proofs.Common.{◌≡◌, ℕ, zero, suc, ◌+◌, ◌-◌, ◌<◌, ◌≤◌, Bool, false, List, length, sym, refl, ap, ◌∙◌, ap₂, arith}
+use Rattle.std.proofs.Common.{◌≡◌, ℕ, zero, suc, ◌+◌, ◌-◌, ◌<◌, ◌≤◌, Bool, false, ◌==◌, List, length, Option, Some, None, is_none, Ok, Err, ◌≢◌, sym, refl, ap, ◌∙◌, add-one, arith, eq-eqb, ne_eqb}
 use Rattle.basis.specs.Bytes.{at}
 use Rattle.basis.specs.Answer.{Answer, else_found, else_kept, refusal, none, ◌or_else◌, number_if, number_unless}
 use Rattle.basis.specs.Choose.{choose, of_choice}
 use Rattle.run.specs.declared.ask.Asked.{Asked}
-use Rattle.run.specs.declared.Mode.TheVariants.{Table}
+use Rattle.run.specs.declared.Refusal.{Refusal}
 use Rattle.run.specs.declared.State.{State}
-use Rattle.run.specs.declared.Closed.{Closed}
-use Rattle.run.specs.declared.Closed.TheVariants.{Accepted, Refused}
-use Rattle.run.specs.State.{period_of, job_of, place, place_in}
-use Rattle.run.specs.Places.{place_by_numbers, place_within}
-use Rattle.run.specs.Who.{who_found, running}
-use Rattle.run.specs.Step.{of12, of13, of14, with_result, step_found, step_refusal, state_after, log_after, answer_of, next_state, next_log, state_of, SteppedIn, Stepped}
-use Rattle.run.specs.Accepted.{WhoAccepted, StepAccepted, step_accepted, state_is, accepted_none, refused_some, held_after, in_place, who_runs, running_to}
-use Rattle.run.specs.LogAfter.{put-length, result-length}
-use Rattle.run.specs.Shapes.{Answers, twelve_on, in_all, used_one, result_byte, result_put, ended_if, served, renewed, late_up_to, gone_on}
-use Rattle.run.proofs.Served.{some_byte, result_put_lem, late_served, state_served}
+use Rattle.run.specs.State.{period_of, job_of, job_count, place}
+use Rattle.run.specs.Places.{place_within}
+use Rattle.run.specs.Who.{who_found, who_refusal, running, unless_refused, of_entry}
+use Rattle.run.specs.Step.{of12, of13, of14, result_of, with_result, step_found, step_refusal, log_after, answer_of, next_state, next_log, SteppedIn}
+use Rattle.run.specs.Accepted.{WhoAccepted, StepAccepted, step_accepted, state_is, who_runs, running_to}
+use Rattle.run.specs.LogAfter.{result-length}
+use Rattle.run.specs.Shapes.{asked_of, twelve_on, Serves, served_one, served, Turns, turned, late_at, renewed, late_up_to, gone_on}
+use Rattle.run.proofs.Turns.{entry_of_some}
+use Rattle.run.proofs.Asking.{refused_by, refused_too, passed_by}
+use Rattle.run.proofs.Served.{place_kept, period_kept, count_kept, position_kept, position_still, period_still, place_still, late_long, late_served, state_served}
 
--- ---- refused: a number that is not 0
-closed_is : (n : ℕ) → (n ≡ 0 → ⊥) → Refused n ≡ answer_of n
-unfolding answer_of
-closed_is zero nz = absurd (nz refl)
-closed_is (suc n) nz = refl
+-- ---- the task that ran, if any
+pub some_task : (e task : ℕ) → Some task ≡ of_entry e → 1 ≤ task
+some_task e task q = (entry_of_some e task q).1
 
-log_is : (n : ℕ) (log after : List ℕ) → (n ≡ 0 → ⊥) → log ≡ next_log n log after
+pub serves_task : (s : State) (log : List ℕ) (ran : Option ℕ) → Serves s log ran → (task : ℕ) → ran ≡ Some task → (task - 1 < 16) × (at s.used (task - 1) ≤ 4096) × (place s (task - 1) < length log)
+serves_task s log ran S task e =
+    let h = entry_of_some S.entry task (sym e ∙ S.is) in
+    let is : S.entry ≡ suc (task - 1) = omega (arith, h) in
+    (omega (arith, S.task_to, h), S.used_to (task - 1) is, S.within (task - 1) is)
+
+module _ (s : State) (report : ℕ) (log : List ℕ) where
+  pub serves_one : (e task : ℕ) → Some task ≡ of_entry e → (after : State) (log' : List ℕ) → (after ≡ served_one s (task - 1) report) × (log' ≡ result_of s (task - 1) report log)
+      → (after ≡ served s e report) × (log' ≡ with_result s e report log)
+  unfolding of_entry served with_result
+  serves_one zero task q after log' h = cc
+  serves_one (suc i) task q after log' h = let is : task - 1 ≡ i = omega (arith, entry_of_some (suc i) task q) in rw is at h
+
+  pub serves_none : (e : ℕ) → None ≡ of_entry e → (s ≡ served s e report) × (log ≡ with_result s e report log)
+  unfolding of_entry served with_result
+  serves_none zero q = (refl, refl)
+  serves_none (suc i) q = cc
+
+-- ---- refused
+log_is : (n : ℕ) (log after : List ℕ) → (n ≢ 0) → log ≡ next_log n log after
 unfolding next_log
 log_is zero log after nz = absurd (nz refl)
 log_is (suc n) log after nz = refl
@@ -33,159 +50,127 @@ in_a_row : (a b c : Bool) → choose a 12 (choose b (choose c 14 0) 13) ≡ (cho
 unfolding refusal none
 in_a_row a b c = sym (number_if a 11 _ ∙ ap (choose a 12) (number_unless b 12 _ ∙ ap (λ (x : ℕ). choose b x 13) (of_choice (λ (x : Answer). x.number) c (refusal 14 0) none)))
 
+idle_is : (e : ℕ) → is_none (of_entry e) ≡ (e == 0)
+unfolding of_entry
+idle_is zero = sym (eq-eqb 0 0 refl)
+idle_is (suc i) = sym (ne_eqb (suc i) 0 (λ z. omega arith))
+
+-- A step that nothing refuses, and who ran in its slice.
+pub record Passed (s : State) (table : List ℕ) (clock report : ℕ) (log : List ℕ) (ran : Option ℕ) : Type 0 where
+  pub accepted : StepAccepted s table clock report log
+  pub ran_is : ran ≡ of_entry (running s table)
+
+module _ (s : State) (table : List ℕ) (clock report : ℕ) (log : List ℕ) where
+  refused_step : (n : ℕ) (r : Refusal) → n ≡ step_refusal s table clock report log → (n ≢ 0) → Err r ≡ answer_of n → SteppedIn s table clock report log log s (Err r)
+  refused_step n r e nz er = record {
+    answer = er ∙ ap answer_of e;
+    state = rw (← e) (state_is n s _ nz);
+    bytes = rw (← e) (log_is n log _ nz);
+  }
+
+  -- Refusals 9 to 11 come first,
+  pub step_not_asked : (r : Refusal) → asked_of s table ≡ Err r → SteppedIn s table clock report log log s (Err r)
+  unfolding asked_of answer_of step_found
+  step_not_asked r e =
+      let nz = refused_by (who_refusal s table) _ r e in
+      refused_step (who_refusal s table) r (sym (ap (λ (a : Answer). a.number) (else_kept (who_found s table) _ nz))) nz (refused_too (who_refusal s table) _ tt r e)
+
+  -- then those from 12 on,
+  module _ (a : Asked) (who : asked_of s table ≡ Ok a) where
+    abbrev found : ℕ
+    found = twelve_on a.jobs (length log) s.clock clock (is_none a.ran) report
+
+    told : (who_refusal s table ≡ 0) × (record { jobs = job_count s; ran = of_entry (running s table) } ≡ a)
+    unfolding asked_of
+    told = passed_by (who_refusal s table) _ a who
+
+    found_is : found ≡ step_refusal s table clock report log
+    unfolding step_found twelve_on of12 of13 of14
+    found_is =
+        rw (← told.1, idle_is (running s table)) (in_a_row _ _ _) ∙ sym (ap (λ (a : Answer). a.number) (else_found (who_found s table) _ told.0))
+
+    pub step_refused : (r : Refusal) → answer_of found ≡ Err r → SteppedIn s table clock report log log s (Err r)
+    unfolding answer_of
+    step_refused r e = refused_step found r found_is (refused_by found _ r e) (sym e)
+
+    -- and what is not refused is done.
+    pub passes : (done : Unit {0}) → answer_of found ≡ Ok done → Passed s table clock report log a.ran
+    unfolding answer_of
+    passes done e = record {
+      accepted = (step_accepted s table clock report log).0 (sym found_is ∙ (passed_by found _ done e).0);
+      ran_is = sym (ap (λ (x : Asked). x.ran) told.1);
+    }
+
+-- ---- closed
 -- What the loop over the tasks takes: their jobs have places in the log.
 pub record Closes (s : State) (log : List ℕ) : Type 0 where
   pub count_within : s.count ≤ 16
   pub position_to : s.position ≤ 4096
   pub period_from : (i : ℕ) → i < s.count → 1 ≤ period_of s i
-  pub within : (i : ℕ) → i < s.count → place_in s.periods s.cycle s.position i < length log
+  pub within : (i : ℕ) → i < s.count → place s i < length log
 
--- The loop keeps it so.
-late_long : (t : State) (ran result : ℕ) (old : List ℕ) (n : ℕ) → length (late_up_to t ran result old n) ≡ length old
-unfolding late_up_to
-late_long t ran result old zero = refl
-late_long t ran result old (suc n) = put-length _ (late_up_to t ran result old n) (place t n) 3 ∙ late_long t ran result old n
+pub turns : (t : State) (log : List ℕ) (i : ℕ) → Closes t log → i < t.count → Turns (renewed t i) (late_up_to t log i) i
+turns t log i C l = record {
+  task_to = omega (arith, C.count_within);
+  period_from = omega (arith, C.period_from i l, period_still t i i);
+  position_to = omega (arith, C.position_to, position_still t i);
+  within = omega (arith, C.within i l, place_still t i i, late_long t log i);
+}
 
-pub still_closes : (t : State) (ran result : ℕ) (old : List ℕ) (i : ℕ) (now : State) (log : List ℕ) → Closes t old → now ≡ renewed t i → log ≡ late_up_to t ran result old i → Closes now log
-unfolding renewed period_of
-still_closes t ran result old i now log C en el =
-    rw en
-    (record {
-      count_within = C.count_within;
-      position_to = C.position_to;
-      period_from = C.period_from;
-      within = λ k l. omega (arith, C.within k l, ap length el, late_long t ran result old i);
-    })
+module _ (t : State) (i : ℕ) (now : State) (is : now ≡ renewed t i) where
+  pub renewed_next : (next : State) → next ≡ turned now i → next ≡ renewed t (i + 1)
+  unfolding renewed
+  renewed_next next e = rw (add-one, ← is) e
 
--- A step that nothing refuses, and who ran in its slice.
-pub record Passed (s : State) (table : List ℕ) (clock report : ℕ) (log : List ℕ) (ran : ℕ) : Type 0 where
-  pub accepted : StepAccepted s table clock report log
-  pub ran_is : ran ≡ running s table
+  pub late_next : (old log next : List ℕ) → log ≡ late_up_to t old i → next ≡ late_at now i log → next ≡ late_up_to t old (i + 1)
+  unfolding late_up_to
+  late_next old log next el e = rw (add-one, ← is, ← el) e
 
-module _ (s : State) (table : List ℕ) (clock report : ℕ) (log : List ℕ) (asked : Asked) (who : Answers s table asked) where
-  refused_step : (n : ℕ) → n ≡ step_refusal s table clock report log → (n ≡ 0 → ⊥) → SteppedIn s table clock report log log s.used s.ended (Refused n)
-  refused_step n e nz = record {
-    answer = closed_is n nz ∙ ap answer_of e;
-    used = rw (← e) (ap (λ (x : State). x.used) (state_is n s _ nz));
-    ended = rw (← e) (ap (λ (x : State). x.ended) (state_is n s _ nz));
-    bytes = rw (← e) (log_is n log _ nz);
-  }
-
-  -- Refusals 9 to 11 come first,
-  pub step_not_asked : (asked.number ≡ 0 → ⊥) → SteppedIn s table clock report log log s.used s.ended (Refused asked.number)
-  unfolding step_found
-  step_not_asked nz = refused_step asked.number (who.number_is ∙ sym (ap (λ (a : Answer). a.number) (else_kept (who_found s table) _ (λ z. nz (who.number_is ∙ z))))) nz
-
-  -- then those from 12 on,
-  module _ (z : asked.number ≡ 0) (m : ℕ) (em : m ≡ twelve_on asked.jobs (length log) s.clock clock asked.ran report) where
-    found_is : m ≡ step_refusal s table clock report log
-    unfolding step_found twelve_on of12 of13 of14
-    found_is = em ∙ rw (who.jobs_are z, who.ran_is z) (in_a_row _ _ _) ∙ sym (ap (λ (a : Answer). a.number) (else_found (who_found s table) _ (sym who.number_is ∙ z)))
-
-    pub step_refused : (m ≡ 0 → ⊥) → SteppedIn s table clock report log log s.used s.ended (Refused m)
-    step_refused nz = refused_step m found_is nz
-
-    -- and what is not refused is done.
-    pub passes : m ≡ 0 → Passed s table clock report log asked.ran
-    passes zm = record { accepted = (step_accepted s table clock report log).0 (sym found_is ∙ zm); ran_is = who.ran_is z }
-
-module _ (s : State) (table : List ℕ) (clock report : ℕ) (log : List ℕ) (ran : ℕ) (P : Passed s table clock report log ran) where
+module _ (s : State) (table : List ℕ) (clock report : ℕ) (log : List ℕ) (ran : Option ℕ) (P : Passed s table clock report log ran) where
   abbrev asked : WhoAccepted s table
   asked = P.accepted.asked
 
-  job_open : (k : ℕ) → ran ≡ suc k → (job_of s k).ended ≡ false
-  job_open k e = (who_runs s table asked k (sym P.ran_is ∙ e)).job_open
+  job_open : (k : ℕ) → running s table ≡ suc k → (job_of s k).ended ≡ false
+  job_open k e = (who_runs s table asked k e).job_open
 
   count_within : s.count ≤ 16
   count_within = asked.is_sound.count_within
 
-  ran_to : ran ≤ s.count
-  ran_to = omega (arith, P.ran_is, running_to s table asked)
+  within_log : (i : ℕ) → i < s.count → place s i < length log
+  within_log i l = omega (arith, place_within s asked.is_sound asked.not_over i l, P.accepted.log_from)
 
-  pub ran_most : ran ≤ 16
-  ran_most = omega (arith, ran_to, count_within)
-
-  -- the job that ran, or in an idle slice that of the first task
-  pub used_most : at s.used (ran - 1) ≤ 4096
+  pub serves : Serves s log ran
   unfolding job_of
-  used_most =
-      let T = asked.is_sound.tasks_sound (ran - 1) (omega (arith, ran_to, asked.is_sound.count_from)) in
-      omega (arith, T.used_to, T.runtime_to, T.period_to)
-
-  within_log : (i : ℕ) → i < s.count → place_in s.periods s.cycle s.position i < length log
-  within_log i l = omega (arith, place_by_numbers s i, place_within s asked.is_sound asked.not_over i l, P.accepted.log_from)
-
-  module _ (total result : ℕ) (ei : total ≡ in_all ran s.used) (er : result ≡ result_byte s.runtimes ran total report) where
-    byte_is : result ≡ result_byte s.runtimes ran (in_all ran s.used) report
-    byte_is = er ∙ ap (λ (x : ℕ). result_byte s.runtimes ran x report) ei
-
-    -- a result is that of a task that ran
-    pub result_of_one : 0 < result → 0 < ran
-    result_of_one p = some_byte s report ran (λ z. omega (arith, byte_is))
-
-    pub result_lies : 0 < result → (0 < ran) × (ran - 1 < 16) × (place_in s.periods s.cycle s.position (ran - 1) < length log)
-    result_lies p =
-        let some = result_of_one p in
-        let l : ran - 1 < s.count = omega (arith, ran_to) in
-        (some, omega (arith, count_within), within_log _ l)
-
-    module _ (used : List ℕ) (ended : List Bool) (marked : List ℕ) (eu : used ≡ used_one ran s.used) (ee : ended ≡ ended_if ran result s.ended)
-        (ek : marked ≡ result_put log (place_in s.periods s.cycle s.position (ran - 1)) result) where
-      -- the state that the loop begins with
-      abbrev begun : State
-      begun = state_of s.periods s.deadlines s.runtimes used ended s.count s.cycle s.position s.clock Table
-
-      begun_served : begun ≡ served s ran report
-      unfolding served
-      begun_served =
-          ap₂ (λ u e. state_of s.periods s.deadlines s.runtimes u e s.count s.cycle s.position s.clock Table)
-          eu (ee ∙ ap (λ (x : ℕ). ended_if ran x s.ended) byte_is)
-
-      marked_result : marked ≡ with_result s ran report log
-      marked_result = ek ∙ ap₂ (result_put log) (place_by_numbers s (ran - 1)) byte_is ∙ result_put_lem s report ran log
-
-      pub closing : Closes begun marked
-      unfolding period_of
-      closing = record {
-        count_within = count_within;
-        position_to = omega (arith, asked.not_over, asked.is_sound.cycle_to);
-        period_from = λ i l. (asked.is_sound.tasks_sound i l).period_from;
-        within = λ i l. omega (arith, within_log i l, ap length marked_result, result-length s report log ran);
-      }
-
-      pub length_still : (i : ℕ) (late : List ℕ) → late ≡ late_up_to begun ran result marked i → length late ≡ length log
-      length_still i late el = ap length el ∙ late_long begun ran result marked i ∙ ap length marked_result ∙ result-length s report log ran
-
-      pub step_done : (i : ℕ) (used' : List ℕ) (ended' : List Bool) (late : List ℕ) → i ≡ s.count → used' ≡ (renewed begun i).used → ended' ≡ (renewed begun i).ended → late ≡ late_up_to begun ran result marked i
-          → SteppedIn s table clock report log late used' ended' Accepted
-      unfolding answer_of next_state next_log log_after gone_on
-      step_done i used' ended' late ei eu' ee' el =
-          let none : step_refusal s table clock report log ≡ 0 = (step_accepted s table clock report log).1 P.accepted in
-          let after : gone_on (renewed begun i) clock s.mode ≡ state_after s ran clock report =
-          ap (λ (x : State). gone_on x clock s.mode) (ap₂ renewed begun_served ei) ∙ state_served s report ran job_open asked.is_sound.count_from ran_to clock
-          in
-          record {
-            answer = rw none;
-            used = rw (none, ← P.ran_is) (eu' ∙ ap (λ (x : State). x.used) after);
-            ended = rw (none, ← P.ran_is) (ee' ∙ ap (λ (x : State). x.ended) after);
-            bytes = rw (none, ← P.ran_is) (el ∙ rw (begun_served, marked_result, ei, byte_is) (late_served s report ran job_open _ s.count));
-          }
-
--- ---- the state by value
-module _ (s : State) (table : List ℕ) (clock report : ℕ) (log log' used : List ℕ) (ended : List Bool) (r : Closed) (S : SteppedIn s table clock report log log' used ended r) where
-  pub gives_back : (n : ℕ) → r ≡ Refused n → Stepped s table clock report log log' (record { answer = r; state = s })
-  gives_back n e = record {
-    answer = S.answer;
-    state = state_is _ s _ (refused_some _ n (sym e ∙ S.answer));
-    bytes = S.bytes;
+  serves = record {
+    entry = running s table;
+    is = P.ran_is;
+    task_to = omega (arith, running_to s table asked, count_within);
+    used_to = λ i e.
+        let T = asked.is_sound.tasks_sound i (who_runs s table asked i e).below in
+        omega (arith, T.used_to, T.runtime_to, T.period_to);
+    within = λ i e. within_log i (who_runs s table asked i e).below;
   }
 
-  module _ (e : r ≡ Accepted) where
-    pub position_fits : s.position < 4096
-    position_fits =
-        let who = ((step_accepted s table clock report log).0 (accepted_none _ (sym e ∙ S.answer))).asked in
-        omega (arith, who.not_over, who.is_sound.cycle_to)
+  module _ (begun : State) (marked : List ℕ) (is : (begun ≡ served s (running s table) report) × (marked ≡ with_result s (running s table) report log)) where
+    pub closing : Closes begun marked
+    closing = rw (is.0, is.1) (record {
+      count_within = omega (arith, count_within, count_kept s report (running s table));
+      position_to = omega (arith, position_kept s report (running s table), asked.not_over, asked.is_sound.cycle_to);
+      period_from = λ i l. omega (arith, period_kept s report (running s table) i, (asked.is_sound.tasks_sound i (omega (arith, count_kept s report (running s table)))).period_from);
+      within = λ i l. omega (arith, place_kept s report (running s table) i, within_log i (omega (arith, count_kept s report (running s table))), result-length s report log (running s table));
+    })
 
-    pub hands_on : Stepped s table clock report log log' (record { answer = r; state = state_of s.periods s.deadlines s.runtimes used ended s.count s.cycle (s.position + 1) clock s.mode })
-    unfolding held_after
-    hands_on = rw e (rw e at (in_place s table clock report log log' used ended r S))
+    pub length_still : (i : ℕ) (late : List ℕ) → late ≡ late_up_to begun marked i → length late ≡ length log
+    length_still i late el = ap length el ∙ late_long begun marked i ∙ ap length is.1 ∙ result-length s report log (running s table)
+
+    pub step_done : length s.ended ≡ 16 → (i : ℕ) (after : State) (late : List ℕ) → i ≡ begun.count → after ≡ renewed begun i → late ≡ late_up_to begun marked i
+        → SteppedIn s table clock report log late (gone_on after clock) (Ok tt)
+    unfolding answer_of unless_refused next_state next_log log_after
+    step_done long i after late ei ea el =
+        let none : step_refusal s table clock report log ≡ 0 = (step_accepted s table clock report log).1 P.accepted in
+        let all : i ≡ s.count = ei ∙ ap (λ (x : State). x.count) is.0 ∙ count_kept s report (running s table) in
+        record {
+          answer = rw none;
+          state = rw (none, ea, all, is.0) (state_served s report (running s table) job_open (running_to s table asked) clock);
+          bytes = rw (none, el, all, is.0, is.1) (late_served s report (running s table) job_open _ s.count (omega (arith, count_within)));
+        }

@@ -1,6 +1,6 @@
 -- When asking who runs and a step are accepted, said as facts; and what is known of the task that runs.
-use Rattle.std.specs.Prelude.{◌≡◌, ℕ, zero, suc, ◌+◌, ◌<◌, ◌≤◌, Bool, true, false, ◌↔◌, List, length, ◌==◌, ◌≢◌, nat_eq, slice_index, slice_index_or, refl}
-use Rattle.std.proofs.Common.{sym, ap, ap₂, ◌∙◌, ⊎_elim, inl, inr, arith, pos_of_ne-zero, ltb-false, le-ltb, eqb-true, eq-eqb, ne_eqb}
+use Rattle.std.specs.Prelude.{◌≡◌, ℕ, zero, suc, ◌+◌, ◌<◌, ◌≤◌, Bool, true, false, ◌↔◌, List, length, Result, Ok, Err, ◌==◌, ◌≢◌, nat_eq, slice_index, slice_index_or, refl}
+use Rattle.std.proofs.Common.{sym, ap, ◌∙◌, ⊎_elim, inl, inr, arith, pos_of_ne-zero, ltb-false, le-ltb, eqb-true, eq-eqb, ne_eqb}
 use Rattle.std.proofs.lemmas.Bool.{eqb-false}
 use Rattle.basis.specs.Choose.{choose, choose_yes, choose_no, bool_cases, both_false, either_false}
 use Rattle.basis.specs.Answer.{Answer, refusal, none, ◌or_else◌, passed_if, passed_unless, none_number, else_none, none_else}
@@ -9,11 +9,10 @@ use Rattle.plan.proofs.Rank.{first_law}
 use Rattle.run.specs.declared.Mode.{Mode}
 use Rattle.run.specs.declared.Mode.TheVariants.{Table, Filling}
 use Rattle.run.specs.declared.State.{State}
-use Rattle.run.specs.declared.Closed.{Closed}
-use Rattle.run.specs.declared.Closed.TheVariants.{Accepted, Refused}
+use Rattle.run.specs.declared.Refusal.{Refusal}
 use Rattle.run.specs.declared.Next.{Next}
 use Rattle.run.specs.State.{key_of, current_of, job_of, sound, job_count}
-use Rattle.run.specs.Who.{unless_ended, first_open, running_by, running, of9, of10, of11_by, of11, who_found, who_refusal}
+use Rattle.run.specs.Who.{unless_ended, first_open, running_by, running, of9, of10, of11_by, of11, who_found, who_refusal, unless_refused}
 use Rattle.run.specs.Step.{of12, next_clock, of13, of14, step_found, step_refusal, state_after, log_after, answer_of, next_state, next_log, state_of, SteppedIn, Stepped}
 use Rattle.run.specs.Sound.{SoundState, sound_tells}
 
@@ -124,8 +123,8 @@ step_accepted s table clock report log = (
 module _ (s : State) (table : List ℕ) where
   -- An accepted step answers so, with the state and the log as the rules say.
   pub step_answers : (clock report : ℕ) (log log' : List ℕ) (r : Next) → StepAccepted s table clock report log → Stepped s table clock report log log' r
-      → (r.answer ≡ Accepted) × (r.state ≡ state_after s (running s table) clock report) × (log' ≡ log_after s (running s table) report log)
-  unfolding answer_of next_state next_log
+      → (r.answer ≡ Ok tt) × (r.state ≡ state_after s (running s table) clock report) × (log' ≡ log_after s (running s table) report log)
+  unfolding answer_of unless_refused next_state next_log
   step_answers clock report log log' r went S =
       let z = (step_accepted s table clock report log).1 went in
       (rw z at S.answer, rw z at S.state, rw z at S.bytes)
@@ -136,42 +135,32 @@ unfolding next_state
 state_is zero s after nz = absurd (nz refl)
 state_is (suc n) s after nz = refl
 
-pub accepted_none : (n : ℕ) → Accepted ≡ answer_of n → n ≡ 0
-unfolding answer_of
+pub accepted_none : (n : ℕ) → Ok tt ≡ answer_of n → n ≡ 0
+unfolding answer_of unless_refused
 accepted_none zero e = refl
-accepted_none (suc n) e = let z : ◌≡◌ {A = ℕ} 0 1 = cc in absurd (omega arith)
+accepted_none (suc n) e = cc
 
-pub refused_some : (n m : ℕ) → Refused m ≡ answer_of n → n ≢ 0
-unfolding answer_of
-refused_some zero m e z = let z : ◌≡◌ {A = ℕ} 0 1 = cc in omega arith
-refused_some (suc n) m e z = omega arith
+pub refused_some : (n : ℕ) (r : Refusal) → Err r ≡ answer_of n → n ≢ 0
+unfolding answer_of unless_refused
+refused_some zero r e z = cc
+refused_some (suc n) r e z = omega arith
 
--- What a caller holds after a step in place that raises the position and keeps the clock reading of an accepted one
-unfoldable pub held_after : Closed → State → List ℕ → List Bool → ℕ → State
-held_after Accepted s used ended clock = state_of s.periods s.deadlines s.runtimes used ended s.count s.cycle (s.position + 1) clock s.mode
-held_after (Refused n) s used ended clock = state_of s.periods s.deadlines s.runtimes used ended s.count s.cycle s.position s.clock s.mode
+-- What a caller holds after a step in place: accepted, the position raised by one and the clock reading kept,
+unfoldable pub held_after : Result (Unit {0}) Refusal → State → List ℕ → List Bool → ℕ → State
+held_after (Ok done) s used ended clock = state_of s.periods s.deadlines s.runtimes used ended s.count s.cycle (s.position + 1) clock s.mode
+held_after (Err r) s used ended clock = state_of s.periods s.deadlines s.runtimes used ended s.count s.cycle s.position s.clock s.mode
 
--- is what the step by value gives.
-pub in_place : (s : State) (table : List ℕ) (clock report : ℕ) (log log' used : List ℕ) (ended : List Bool) (r : Closed) → SteppedIn s table clock report log log' used ended r
-    → Stepped s table clock report log log' (record { answer = r; state = held_after r s used ended clock })
+-- with nothing else changed but the slices used and the ends.
+pub in_place : (s : State) (table : List ℕ) (clock report : ℕ) (log log' : List ℕ) (after : State) (r : Result (Unit {0}) Refusal) → SteppedIn s table clock report log log' after r
+    → after ≡ held_after r s after.used after.ended clock
 unfolding held_after next_state state_after
-in_place s table clock report log log' used ended Accepted S =
+in_place s table clock report log log' after (Ok done) S =
     let none : step_refusal s table clock report log ≡ 0 = accepted_none _ S.answer in
-    record {
-      answer = S.answer;
-      state = rw none (ap₂ (λ u d. state_of s.periods s.deadlines s.runtimes u d s.count s.cycle (s.position + 1) clock s.mode) (rw none at S.used) (rw none at S.ended));
-      bytes = S.bytes;
-    }
-in_place s table clock report log log' used ended (Refused n) S =
-    let same = state_is _ s (state_after s (running s table) clock report) (refused_some _ n S.answer) in
-    record {
-      answer = S.answer;
-      state =
-          ap₂ (λ u d. state_of s.periods s.deadlines s.runtimes u d s.count s.cycle s.position s.clock s.mode)
-          (S.used ∙ sym (ap (λ (x : State). x.used) same)) (S.ended ∙ sym (ap (λ (x : State). x.ended) same))
-          ∙ same;
-      bytes = S.bytes;
-    }
+    let is = rw none at S.state in
+    rw is
+in_place s table clock report log log' after (Err r) S =
+    let is = S.state ∙ sym (state_is _ s (state_after s (running s table) clock report) (refused_some _ r S.answer)) in
+    rw is
 
 -- ---- who runs
 -- Whoever runs is a task of the state, and its job has not ended.

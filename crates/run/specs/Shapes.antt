@@ -1,106 +1,101 @@
 -- Shaped like the code, for private contracts alone; the laws of proofs/ tie each to the definitions of State, Who and Step.
-use Rattle.std.specs.Prelude.{◌≡◌, ℕ, zero, suc, ◌+◌, ◌-◌, ◌/◌, ◌%◌, Bool, true, false, not, ◌&&◌, ◌||◌, List, length, ◌==◌, nat_le, nat_lt, slice_index_or, slice_set}
-use Rattle.basis.specs.Bytes.{at, overwrite}
-use Rattle.basis.specs.Choose.{choose, within}
-use Rattle.basis.specs.Sum.{sum}
-use Rattle.plan.specs.Plan.{first}
+use Rattle.std.specs.Prelude.{◌≡◌, ℕ, zero, suc, ◌+◌, ◌<◌, ◌≤◌, Bool, true, false, not, ◌&&◌, ◌||◌, List, length, Option, Some, None, Result, Ok, Err, ◌==◌, nat_lt, slice_index_or, slice_set}
+use Rattle.basis.specs.Bytes.{at}
+use Rattle.basis.specs.Choose.{choose}
 use Rattle.run.specs.declared.ask.Asked.{Asked}
-use Rattle.run.specs.declared.Mode.{Mode}
-use Rattle.run.specs.declared.Mode.TheVariants.{Table}
+use Rattle.run.specs.declared.close.Outcome.{Outcome}
+use Rattle.run.specs.declared.close.Outcome.TheVariants.{Done, Over, Late}
+use Rattle.run.specs.declared.Refusal.{Refusal}
+use Rattle.run.specs.declared.Refusal.TheVariants.{NoEntry}
 use Rattle.run.specs.declared.State.{State}
-use Rattle.run.specs.State.{Job, every, sound_task, job_count, place, deadline_next, release_next}
-use Rattle.run.specs.Who.{running, who_refusal}
-use Rattle.run.specs.Step.{next_clock, state_of}
+use Rattle.run.specs.State.{period_of, due_of, runtime_of, current_of, age_of, job_of, every, sound_task, sound, job_count, place, deadline_next, release_next}
+use Rattle.run.specs.Who.{unless_ended, running, who_refusal, of_entry, unless_refused}
+use Rattle.run.specs.Step.{next_clock}
 
 -- ---- soundness and job count in one pass
-abbrev pub job : ℕ → Bool → Job
-job used ended = record { used = used; ended = ended }
+unfoldable pub sound_at : State → ℕ → Bool
+sound_at s i = sound_task s.cycle (period_of s i) (due_of s i) (runtime_of s i (current_of s i)) (age_of s i) (job_of s i)
 
-unfoldable pub jobs_of : List ℕ → List ℕ → List ℕ → List ℕ → List Bool → ℕ → ℕ → ℕ → ℕ
-jobs_of periods deadlines runtimes used ended count cycle position =
-    choose (every (λ i. sound_task cycle (at periods i) (at deadlines i) (at runtimes i) (position % at periods i) (job (at used i) (slice_index_or ended i false))) count)
-    (sum (λ i. cycle / at periods i) count)
-    0
+unfoldable pub jobs_of : State → Option ℕ
+jobs_of s = choose (every (sound_at s) s.count) (Some (job_count s)) None
 
-unfoldable pub jobs_if_sound : List ℕ → List ℕ → List ℕ → List ℕ → List Bool → ℕ → ℕ → ℕ → ℕ
-jobs_if_sound periods deadlines runtimes used ended count cycle position =
-    choose (within 1 16 count && within 1 4096 cycle && nat_le position cycle) (jobs_of periods deadlines runtimes used ended count cycle position) 0
-
--- What was counted of a state of which the other parts are not at hand.
-pub record Counted (deadlines : List ℕ) (ended : List Bool) (count cycle position jobs : ℕ) : Type 0 where
-  pub periods : List ℕ
-  pub runtimes : List ℕ
-  pub used : List ℕ
-  pub is : jobs ≡ jobs_if_sound periods deadlines runtimes used ended count cycle position
-
--- ---- the scan for the first-ranking open task
-unfoldable pub open_first : List ℕ → List Bool → ℕ → ℕ
-open_first deadlines ended count = first (at deadlines) (λ i. choose (slice_index_or ended i false) 0 1) count
+unfoldable pub jobs_if_sound : State → Option ℕ
+jobs_if_sound s = choose (sound s) (Some (job_count s)) None
 
 -- ---- asking
-pub record Answers (s : State) (table : List ℕ) (r : Asked) : Type 0 where
-  pub number_is : r.number ≡ who_refusal s table
-  pub jobs_are : r.number ≡ 0 → r.jobs ≡ job_count s
-  pub ran_is : r.number ≡ 0 → r.ran ≡ running s table
+-- The scan has found this entry so far: idle, or that of one of 16 tasks.
+pub record OfEntry (best : Option ℕ) : Type 0 where
+  pub entry : ℕ
+  pub is : best ≡ of_entry entry
+  pub to : entry ≤ 16
 
-unfoldable pub open_entry : List Bool → ℕ → ℕ
-open_entry ended e = choose (e == 0) 0 (choose (slice_index_or ended (e - 1) false) 0 e)
+unfoldable pub table_ask : State → List ℕ → Result (Option ℕ) Refusal
+table_ask s table =
+    choose (nat_lt (length table) s.cycle || nat_lt s.count (at table s.position)) (Err NoEntry) (Ok (of_entry (unless_ended s (at table s.position))))
 
-unfoldable pub table_ask : List Bool → ℕ → ℕ → ℕ → ℕ → List ℕ → Asked
-table_ask ended count cycle position jobs table =
-    choose (nat_lt (length table) cycle || nat_lt count (at table position))
-    (record { number = 11; jobs = 0; ran = 0 })
-    (record { number = 0; jobs = jobs; ran = open_entry ended (at table position) })
+unfoldable pub asked_of : State → List ℕ → Result Asked Refusal
+asked_of s table = unless_refused (who_refusal s table) (record { jobs = job_count s; ran = of_entry (running s table) })
 
 -- ---- refusals 12 to 14
-unfoldable pub twelve_on : ℕ → ℕ → ℕ → ℕ → ℕ → ℕ → ℕ
-twelve_on jobs length last clock ran report =
-    choose (nat_lt length jobs) 12 (choose (clock == next_clock last) (choose (nat_lt 1 report || (report == 1 && ran == 0)) 14 0) 13)
+unfoldable pub twelve_on : ℕ → ℕ → ℕ → ℕ → Bool → ℕ → ℕ
+twelve_on jobs length last clock idle report =
+    choose (nat_lt length jobs) 12 (choose (clock == next_clock last) (choose (nat_lt 1 report || (report == 1 && idle)) 14 0) 13)
 
 -- ---- a slice
--- What the job that ran has used in all, 0 in an idle slice; and the slices used by all.
-unfoldable pub in_all : ℕ → List ℕ → ℕ
-in_all ran used = choose (ran == 0) 0 (at used (ran - 1) + 1)
+unfoldable pub outcome_byte : Outcome → ℕ
+outcome_byte Done = 1
+outcome_byte Over = 2
+outcome_byte Late = 3
 
-unfoldable pub used_one : ℕ → List ℕ → List ℕ
-used_one ran used = choose (ran == 0) used (slice_set used (ran - 1) (at used (ran - 1) + 1))
+unfoldable pub ended_with : State → ℕ → State
+ended_with s i = record s { ended = slice_set s.ended i true }
 
--- The byte of its result, 0 for none, where it is written, and the jobs that have ended.
-unfoldable pub result_byte : List ℕ → ℕ → ℕ → ℕ → ℕ
-result_byte runtimes ran total report =
-    choose (ran == 0) 0 (choose (report == 1) 1 (choose (total == at runtimes (ran - 1)) 2 0))
+-- Whoever ran has a job in the log.
+pub record Serves (s : State) (log : List ℕ) (ran : Option ℕ) : Type 0 where
+  pub entry : ℕ
+  pub is : ran ≡ of_entry entry
+  pub task_to : entry ≤ 16
+  pub used_to : (i : ℕ) → entry ≡ suc i → at s.used i ≤ 4096
+  pub within : (i : ℕ) → entry ≡ suc i → place s i < length log
 
-unfoldable pub result_put : List ℕ → ℕ → ℕ → List ℕ
-result_put log at_place result = choose (result == 0) log (slice_set log at_place result)
+-- The state when the task that ran has had the slice, by its entry, before late and fresh jobs.
+unfoldable pub served_one : State → ℕ → ℕ → State
+served_one s i report =
+    record s {
+      used = slice_set s.used i (at s.used i + 1);
+      ended = choose (report == 1 || (at s.used i + 1 == at s.runtimes i)) (slice_set s.ended i true) s.ended;
+    }
 
-unfoldable pub ended_if : ℕ → ℕ → List Bool → List Bool
-ended_if ran result ended = choose (result == 0) ended (slice_set ended (ran - 1) true)
-
--- the job of task i ends in this slice
-unfoldable pub ends_here : ℕ → ℕ → ℕ → Bool
-ends_here ran result i = choose (result == 0) false (ran == i + 1)
-
--- The state when the task that ran has had the slice, before fresh jobs begin. (The mode is not looked at from here on.)
 unfoldable pub served : State → ℕ → ℕ → State
-served s ran report =
-    state_of s.periods s.deadlines s.runtimes (used_one ran s.used)
-    (ended_if ran (result_byte s.runtimes ran (in_all ran s.used) report) s.ended)
-    s.count s.cycle s.position s.clock Table
+served s zero report = s
+served s (suc i) report = served_one s i report
 
--- Such a state with closed and fresh jobs as far as task n, and the log with late jobs as far as task n.
+-- What the end of the slice is for task i, in the state and in the log,
+pub record Turns (s : State) (log : List ℕ) (i : ℕ) : Type 0 where
+  pub task_to : i < 16
+  pub period_from : 1 ≤ period_of s i
+  pub position_to : s.position ≤ 4096
+  pub within : place s i < length log
+
+unfoldable pub turned : State → ℕ → State
+turned s i =
+    record s {
+      used = slice_set s.used i (choose (release_next s i) 0 (at s.used i));
+      ended = slice_set s.ended i (choose (release_next s i) false (slice_index_or s.ended i false || deadline_next s i));
+    }
+
+unfoldable pub late_at : State → ℕ → List ℕ → List ℕ
+late_at s i log = choose (deadline_next s i && not (slice_index_or s.ended i false)) (slice_set log (place s i) 3) log
+
+-- and for the tasks below n.
 unfoldable pub renewed : State → ℕ → State
-renewed s n =
-    state_of s.periods s.deadlines s.runtimes
-    (overwrite (λ i. choose (release_next s i) 0 (at s.used i)) n s.used)
-    (overwrite (λ i. choose (release_next s i) false (slice_index_or s.ended i false || deadline_next s i)) n s.ended)
-    s.count s.cycle s.position s.clock s.mode
+renewed s zero = s
+renewed s (suc i) = turned (renewed s i) i
 
-unfoldable pub late_up_to : State → ℕ → ℕ → List ℕ → ℕ → List ℕ
-late_up_to s ran result log zero = log
-late_up_to s ran result log (suc i) =
-    choose (deadline_next s i && not (slice_index_or s.ended i false || ends_here ran result i)) (slice_set (late_up_to s ran result log i) (place s i) 3) (late_up_to s ran result log i)
+unfoldable pub late_up_to : State → List ℕ → ℕ → List ℕ
+late_up_to s log zero = log
+late_up_to s log (suc i) = late_at (renewed s i) i (late_up_to s log i)
 
--- The slice is closed: one position further, at a new clock reading, in the mode of the run.
-unfoldable pub gone_on : State → ℕ → Mode → State
-gone_on s clock mode =
-    state_of s.periods s.deadlines s.runtimes s.used s.ended s.count s.cycle (s.position + 1) clock mode
+-- The slice is closed: one position further, at a new clock reading.
+unfoldable pub gone_on : State → ℕ → State
+gone_on s clock = record s { position = s.position + 1; clock = clock }

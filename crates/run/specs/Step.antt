@@ -1,15 +1,15 @@
 -- The step that closes the slice at the state's position: refusals 9 to 14, the log and the next state.
-use Rattle.std.specs.Prelude.{◌≡◌, ℕ, zero, suc, ◌+◌, ◌%◌, ◌^◌, Bool, not, ◌&&◌, ◌||◌, List, length, ◌==◌, nat_lt, slice_set, refl}
+use Rattle.std.specs.Prelude.{◌≡◌, ℕ, zero, suc, ◌+◌, ◌%◌, ◌^◌, Bool, not, ◌&&◌, ◌||◌, List, length, Result, Ok, Err, ◌==◌, nat_lt, slice_set, refl}
+use Rattle.std.proofs.Common.{ap, arith}
 use Rattle.basis.specs.Choose.{choose}
 use Rattle.basis.specs.Bytes.{overwrite}
 use Rattle.basis.specs.Answer.{Answer, refusal, none, ◌or_else◌}
 use Rattle.run.specs.declared.Mode.{Mode}
 use Rattle.run.specs.declared.State.{State}
-use Rattle.run.specs.declared.Closed.{Closed}
-use Rattle.run.specs.declared.Closed.TheVariants.{Accepted, Refused}
+use Rattle.run.specs.declared.Refusal.{Refusal}
 use Rattle.run.specs.declared.Next.{Next}
 use Rattle.run.specs.State.{Job, fresh, runtime_of, current_of, job_of, job_count, place, deadline_next, release_next}
-use Rattle.run.specs.Who.{running, who_found}
+use Rattle.run.specs.Who.{running, who_found, number_of, unless_refused, IsFound, some_back, found_if, found_unless, found_else, who_found_is}
 
 -- ---- refusals 12 to 14, after 9 to 11
 -- 12: log shorter than the job count.
@@ -87,9 +87,8 @@ state_after s ran clock report =
 
 -- ---- the step
 -- A refused step gives back the state that it got and writes nothing.
-unfoldable pub answer_of : ℕ → Closed
-answer_of zero = Accepted
-answer_of (suc n) = Refused (suc n)
+unfoldable pub answer_of : ℕ → Result (Unit {0}) Refusal
+answer_of n = unless_refused n tt
 
 unfoldable pub next_state : ℕ → State → State → State
 next_state zero s after = after
@@ -104,24 +103,32 @@ pub record Stepped (s : State) (table : List ℕ) (clock report : ℕ) (log log'
   pub state : r.state ≡ next_state (step_refusal s table clock report log) s (state_after s (running s table) clock report)
   pub bytes : log' ≡ next_log (step_refusal s table clock report log) log (log_after s (running s table) report log)
 
--- The same of a state that lies in arrays of the caller's, by its parts: what the arrays and the log hold afterwards.
+-- The same of a state that lies with the caller: what it and the log hold afterwards.
+abbrev pub SteppedIn : State → List ℕ → ℕ → ℕ → List ℕ → List ℕ → State → Result (Unit {0}) Refusal → Type 0
+SteppedIn s table clock report log log' after r = Stepped s table clock report log log' (record { answer = r; state = after })
+
+-- A state by its parts.
 abbrev pub state_of : List ℕ → List ℕ → List ℕ → List ℕ → List Bool → ℕ → ℕ → ℕ → ℕ → Mode → State
 state_of periods deadlines runtimes used ended count cycle position clock mode =
     record { periods = periods; deadlines = deadlines; runtimes = runtimes; used = used; ended = ended; count = count; cycle = cycle; position = position; clock = clock; mode = mode }
 
-pub record SteppedIn (s : State) (table : List ℕ) (clock report : ℕ) (log log' used' : List ℕ) (ended' : List Bool) (r : Closed) : Type 0 where
-  pub answer : r ≡ answer_of (step_refusal s table clock report log)
-  pub used : used' ≡ (next_state (step_refusal s table clock report log) s (state_after s (running s table) clock report)).used
-  pub ended : ended' ≡ (next_state (step_refusal s table clock report log) s (state_after s (running s table) clock report)).ended
-  pub bytes : log' ≡ next_log (step_refusal s table clock report log) log (log_after s (running s table) report log)
-
 -- The paper's values of each case.
-unfoldable pub closed_answer : Closed → Answer
-closed_answer Accepted = none
-closed_answer (Refused n) = refusal n 0
+unfoldable pub closed_answer : Result (Unit {0}) Refusal → Answer
+closed_answer (Ok done) = none
+closed_answer (Err r) = refusal (number_of r) 0
+
+-- ---- the numbers that arise
+pub step_found_is : (s : State) (table : List ℕ) (clock report : ℕ) (log : List ℕ) → IsFound (step_refusal s table clock report log)
+unfolding step_found of12 of13 of14
+step_found_is s table clock report log =
+    found_else _ _ (who_found_is s table)
+    (found_else _ _ (found_if _ 12 (omega arith) (omega arith)) (found_else _ _ (found_unless _ 13 (omega arith) (omega arith)) (found_if _ 14 (omega arith) (omega arith))))
 
 -- What a step's answer says is the refusal that was found.
-pub closed_number : (n : ℕ) → closed_answer (answer_of n) ≡ refusal n 0
-unfolding closed_answer answer_of none
-closed_number zero = refl
-closed_number (suc n) = refl
+pub closed_number : (n : ℕ) → IsFound n → closed_answer (answer_of n) ≡ refusal n 0
+unfolding closed_answer answer_of unless_refused none
+closed_number zero f = refl
+closed_number (suc n) f = ap (λ (x : ℕ). refusal x 0) (some_back n f)
+
+pub step_says : (s : State) (table : List ℕ) (clock report : ℕ) (log : List ℕ) → closed_answer (answer_of (step_refusal s table clock report log)) ≡ refusal (step_refusal s table clock report log) 0
+step_says s table clock report log = closed_number (step_refusal s table clock report log) (step_found_is s table clock report log)

@@ -1,12 +1,12 @@
 // Who runs in the slice at the position, and refusals 9 to 11.
-ghost use Rattle.std.specs.Prelude.{◌≡◌, ℕ, ◌-◌, ◌<◌, ◌≤◌, false, List, slice_index_or};
+ghost use Rattle.std.specs.Prelude.{◌≡◌, ℕ, ◌<◌, ◌≤◌, false, slice_index_or};
 ghost use Rattle.basis.specs.Bytes.{at};
 ghost use Rattle.basis.specs.Choose.{choose};
 ghost use Rattle.plan.specs.Plan.{first_of};
-ghost use Rattle.run.specs.Step.{state_of};
-ghost use Rattle.run.specs.Shapes.{jobs_if_sound, Counted, open_first, table_ask, Answers};
+ghost use Rattle.run.specs.Who.{of_entry, first_open};
+ghost use Rattle.run.specs.Shapes.{OfEntry, table_ask, asked_of};
 
-use crate::Mode;
+use crate::{Mode, Refusal, State, sound};
 use readings::Entry;
 
 // What a task's jobs are ranked by: smaller first.
@@ -16,120 +16,75 @@ fn key_of(deadline: u32) -> u32
     deadline
 }
 
-// What asking comes to: a refusal by its number, or 0 and then the job count and the entry of the task that runs.
+// What asking comes to: the job count, and the task that runs, if any.
 #[derive(Clone, Copy)]
 pub(crate) struct Asked {
-    pub(crate) number: u32,
     pub(crate) jobs: u32,
-    pub(crate) ran: usize,
+    pub(crate) ran: Option<usize>,
 }
 
-// A task against the first-ranking open task so far, by their entries. Of equal keys the earlier stays.
-fn better(deadlines: &[u32; 16], best: usize, task: usize, ended: bool) -> usize
-    requires { (1 ≤ task) × (task ≤ 16) × (best ≤ 16) }
-    ensures { result ≡ first_of (at deadlines.now) (choose ended 0 1) (task - 1) best }
+// The task at place i against the first-ranking open task so far. Of equal keys the earlier stays.
+fn better(state: &State, best: Option<usize>, i: usize) -> Option<usize>
+    requires { (i < 16) × OfEntry best }
+    ensures { (e : ℕ) → best ≡ of_entry e → result ≡ of_entry (first_of (at state.now.deadlines) (choose (slice_index_or state.now.ended i false) 0 1) i e) }
 {
-    if ended {
+    if state.ended[i] {
         return best;
     }
-    if best == 0 {
-        return task;
+    match best {
+        Some(task) => {
+            if key_of(state.deadlines[i]) < key_of(state.deadlines[task - 1]) {
+                Some(i + 1)
+            } else {
+                best
+            }
+        }
+        None => Some(i + 1),
     }
-    if key_of(deadlines[task - 1]) < key_of(deadlines[best - 1]) {
-        return task;
+}
+
+fn first_open(state: &State) -> Option<usize>
+    requires { state.now.count ≤ 16 }
+    ensures { result ≡ of_entry (first_open state.now) }
+{
+    let mut best = None;
+    for i in 0..state.count {
+        best = better(state, best, i);
     }
     best
-}
-
-fn first_open(deadlines: &[u32; 16], ended: &[bool; 16], count: usize) -> usize
-    requires { count ≤ 16 }
-    ensures { result ≡ open_first deadlines.now ended.now count }
-{
-    let mut best = 0;
-    let mut i = 0;
-    while i < count {
-        let is_ended = ended[i];
-        i += 1;
-        best = better(deadlines, best, i, is_ended);
-    }
-    best
-}
-
-fn refusal(number: u32) -> Asked
-    ensures { result ≡ record { number = number; jobs = 0; ran = 0 } }
-{
-    Asked {
-        number,
-        jobs: 0,
-        ran: 0,
-    }
-}
-
-// The entry of a task whose current job has not ended; else idle.
-fn if_open(ended: &[bool; 16], task: usize) -> usize
-    requires { (1 ≤ task) × (task ≤ 16) }
-    ensures { result ≡ choose (slice_index_or ended.now (task - 1) false) 0 task }
-{
-    if ended[task - 1] { 0 } else { task }
 }
 
 // By the table: the task of the entry, unless its current job has ended.
-fn by_table(
-    ended: &[bool; 16],
-    count: usize,
-    cycle: u32,
-    position: u32,
-    jobs: u32,
-    table: &[u8],
-) -> Asked
-    requires { (count ≤ 16) × (position < cycle) }
-    ensures { result ≡ table_ask ended.now count cycle position jobs table.now }
+fn by_table(state: &State, table: &[u8]) -> Result<Option<usize>, Refusal>
+    requires { (state.now.count ≤ 16) × (state.now.position < state.now.cycle) }
+    ensures { result ≡ table_ask state.now table.now }
 {
-    if table.len() < cycle as usize {
-        return refusal(11);
+    if table.len() < state.cycle as usize {
+        return Err(Refusal::NoEntry);
     }
-    let entry = readings::read_entry(table[position as usize], count);
-    match entry {
-        Entry::Idle => Asked {
-            number: 0,
-            jobs,
-            ran: 0,
-        },
-        Entry::Task(task) => Asked {
-            number: 0,
-            jobs,
-            ran: if_open(ended, task),
-        },
-        Entry::NoEntry(_) => refusal(11),
+    match readings::read_entry(table[state.position as usize], state.count) {
+        Entry::Idle => Ok(None),
+        Entry::Task(task) => Ok(if state.ended[task - 1] {
+            None
+        } else {
+            Some(task)
+        }),
+        Entry::NoEntry(_) => Err(Refusal::NoEntry),
     }
 }
 
-// Who runs, in the order of the refusals, given the job count of a sound state, 0 of any other; whatever the clock.
-pub(crate) fn ask<'a>(
-    deadlines: &'a [u32; 16],
-    ended: &'a [bool; 16],
-    count: usize,
-    cycle: u32,
-    position: u32,
-    jobs: u32,
-    mode: Mode,
-    table: &[u8],
-) -> Asked
-    requires { Counted deadlines.now ended.now count cycle position jobs }
-    ensures { (periods runtimes used : List ℕ) (clock : ℕ) → jobs ≡ jobs_if_sound periods deadlines.now runtimes used ended.now count cycle position → Answers (state_of periods deadlines.now runtimes used ended.now count cycle position clock mode) table.now result }
+// Who runs, in the order of the refusals, whatever the clock. (As a call of its own it is a tenth of what `who` takes.)
+#[inline(always)]
+pub(crate) fn ask(state: &State, table: &[u8]) -> Result<Asked, Refusal>
+    ensures { result ≡ asked_of state.now table.now }
 {
-    if jobs == 0 {
-        return refusal(9);
+    let jobs = sound::jobs_if_sound(state).ok_or(Refusal::Unsound)?;
+    if state.position == state.cycle {
+        return Err(Refusal::Over);
     }
-    if position == cycle {
-        return refusal(10);
-    }
-    match mode {
-        Mode::Table => by_table(ended, count, cycle, position, jobs, table),
-        Mode::Filling => Asked {
-            number: 0,
-            jobs,
-            ran: first_open(deadlines, ended, count),
-        },
-    }
+    let ran = match state.mode {
+        Mode::Table => by_table(state, table)?,
+        Mode::Filling => first_open(state),
+    };
+    Ok(Asked { jobs, ran })
 }

@@ -1,163 +1,110 @@
 // What closing a slice does, and refusals 12 to 14.
-ghost use Rattle.std.specs.Prelude.{◌≡◌, ◌-◌, ◌<◌, ◌≤◌, true, false, not, ◌&&◌, ◌||◌, length, slice_set};
+ghost use Rattle.std.specs.Prelude.{◌≡◌, ℕ, ◌<◌, ◌≤◌, length, slice_set, is_none};
 ghost use Rattle.basis.specs.Bytes.{at};
-ghost use Rattle.basis.specs.Choose.{choose};
-ghost use Rattle.run.specs.State.{place_in};
-ghost use Rattle.run.specs.Shapes.{twelve_on, in_all, used_one, result_byte, result_put, ended_if, ends_here};
+ghost use Rattle.run.specs.State.{place};
+ghost use Rattle.run.specs.Who.{of_entry};
+ghost use Rattle.run.specs.Step.{answer_of, result_of, with_result};
+ghost use Rattle.run.specs.Shapes.{outcome_byte, twelve_on, ended_with, served_one, Serves, served, Turns, turned, late_at};
 
-use crate::place;
+use crate::ask::Asked;
+use crate::{Refusal, State};
+
+// How a job ends.
+#[derive(Clone, Copy)]
+enum Outcome {
+    Done,
+    Over,
+    Late,
+}
+
+impl Outcome {
+    // The byte of the log that says so.
+    #[tactic(auto, unfolding(crate::specs::Shapes::outcome_byte))]
+    fn byte(self) -> u8
+        ensures { result ≡ outcome_byte self }
+    {
+        match self {
+            Outcome::Done => 1,
+            Outcome::Over => 2,
+            Outcome::Late => 3,
+        }
+    }
+}
 
 // Refusals 12 to 14, for a state that is sound.
-pub(crate) fn step_refusal(
-    jobs: u32,
+pub(crate) fn check(
+    asked: &Asked,
     length: usize,
     last: u32,
     clock: u32,
-    ran: usize,
     report: u8,
-) -> u32
-    ensures { result ≡ twelve_on jobs length last clock ran report }
+) -> Result<(), Refusal>
+    ensures { result ≡ answer_of (twelve_on asked.now.jobs length last clock (is_none asked.now.ran) report) }
 {
-    if length < jobs as usize {
-        return 12;
+    if length < asked.jobs as usize {
+        return Err(Refusal::ShortLog);
     }
     if clock != std::num::wrapping_add_u32(last, 1) {
-        return 13;
+        return Err(Refusal::ClockJumped);
     }
-    if 1 < report {
-        return 14;
+    let is_wrong = (1 < report) | ((report == 1) & asked.ran.is_none());
+    if is_wrong {
+        return Err(Refusal::WrongReport);
     }
-    if report == 0 {
-        return 0;
-    }
-    if ran == 0 { 14 } else { 0 }
+    Ok(())
 }
 
-// The slice counts as used also when the job ends in it. The answer is what its job has used in all.
-pub(crate) fn use_slice(used: &mut [u32; 16], ran: usize) -> u32
-    requires { (ran ≤ 16) × (at used.old (ran - 1) ≤ 4096) }
-    ensures { (used.new ≡ used_one ran used.old) × (result ≡ in_all ran used.old) }
+// The job of the task at place i ends so.
+fn end_job(state: &mut State, log: &mut [u8], i: usize, outcome: Outcome)
+    requires { (i < 16) × (place state.old i < length log.old) }
+    ensures { (state.new ≡ ended_with state.old i) × (log.new ≡ slice_set log.old (place state.old i) (outcome_byte outcome)) }
 {
-    if ran == 0 {
-        return 0;
-    }
-    let in_all = used[ran - 1] + 1;
-    used[ran - 1] = in_all;
-    in_all
+    let at = crate::place(&state.periods, state.cycle, state.position, i);
+    log[at] = outcome.byte();
+    state.ended[i] = true;
 }
 
-// 1 for a job that finished, 2 for one that this slice completes, 0 for none of these.
-pub(crate) fn result_of(runtimes: &[u32; 16], ran: usize, total: u32, report: u8) -> u8
-    requires { ran ≤ 16 }
-    ensures { result ≡ result_byte runtimes.now ran total report }
+// The task at place i has had the slice, which counts as used also when the job ends in it. The job ends if it finished, or if this
+// slice completes its run-time.
+fn serve_task(state: &mut State, log: &mut [u8], i: usize, report: u8)
+    requires { (i < 16) × (at state.old.used i ≤ 4096) × (place state.old i < length log.old) }
+    ensures { (state.new ≡ served_one state.old i report) × (log.new ≡ result_of state.old i report log.old) }
 {
-    if ran == 0 {
-        return 0;
-    }
+    let in_all = state.used[i] + 1;
+    state.used[i] = in_all;
     if report == 1 {
-        return 1;
+        end_job(state, log, i, Outcome::Done);
+        return;
     }
-    if total == runtimes[ran - 1] {
-        return 2;
+    if in_all == state.runtimes[i] {
+        end_job(state, log, i, Outcome::Over);
     }
-    0
 }
 
-fn write(log: &mut [u8], periods: &[u32; 16], cycle: u32, position: u32, i: usize, byte: u8)
-    requires { (i < 16) × (place_in periods.now cycle position i < length log.old) }
-    ensures { log.new ≡ slice_set log.old (place_in periods.now cycle position i) byte }
+// The task that ran, if any, has had the slice.
+pub(crate) fn serve(state: &mut State, log: &mut [u8], ran: Option<usize>, report: u8)
+    requires { Serves state.old log.old ran }
+    ensures { (e : ℕ) → ran ≡ of_entry e → (state.new ≡ served state.old e report) × (log.new ≡ with_result state.old e report log.old) }
 {
-    log[place(periods, cycle, position, i)] = byte;
+    if let Some(task) = ran {
+        serve_task(state, log, task - 1, report);
+    }
 }
 
-pub(crate) fn mark_result(
-    log: &mut [u8],
-    periods: &[u32; 16],
-    cycle: u32,
-    position: u32,
-    ran: usize,
-    res: u8,
-)
-    requires { 0 < res → (0 < ran) × (ran - 1 < 16) × (place_in periods.now cycle position (ran - 1) < length log.old) }
-    ensures { log.new ≡ result_put log.old (place_in periods.now cycle position (ran - 1)) res }
+// The end of the slice for the task at place i: a job that has not ended by its deadline is late, and at a release a fresh job begins,
+// which has used nothing.
+pub(crate) fn turn(state: &mut State, log: &mut [u8], i: usize)
+    requires { Turns state.old log.old i }
+    ensures { (state.new ≡ turned state.old i) × (log.new ≡ late_at state.old i log.old) }
 {
-    if res == 0 {
-        return;
+    let age = state.position % state.periods[i] + 1;
+    let is_late = (age == state.deadlines[i]) & !state.ended[i];
+    let is_release = age == state.periods[i];
+    if is_late {
+        end_job(state, log, i, Outcome::Late);
     }
-    write(log, periods, cycle, position, ran - 1, res);
-}
-
-// A job with a result has ended.
-pub(crate) fn end_job(ended: &mut [bool; 16], ran: usize, res: u8)
-    requires { (ran ≤ 16) × (0 < res → 0 < ran) }
-    ensures { ended.new ≡ ended_if ran res ended.old }
-{
-    if res == 0 {
-        return;
+    if is_release {
+        state.used[i] = 0;
+        state.ended[i] = false;
     }
-    ended[ran - 1] = true;
-}
-
-// Whether the job of task i ends in this slice.
-fn finishes(ran: usize, res: u8, i: usize) -> bool
-    requires { i < 16 }
-    ensures { result ≡ ends_here ran res i }
-{
-    if res == 0 {
-        return false;
-    }
-    ran == i + 1
-}
-
-// 3 for a job with its deadline after this slice that has not ended, in this slice or before.
-pub(crate) fn mark_late(
-    log: &mut [u8],
-    periods: &[u32; 16],
-    cycle: u32,
-    position: u32,
-    i: usize,
-    last: bool,
-    ended: bool,
-    ran: usize,
-    res: u8,
-)
-    requires { (i < 16) × (place_in periods.now cycle position i < length log.old) }
-    ensures { log.new ≡ choose (last && not (ended || ends_here ran res i)) (slice_set log.old (place_in periods.now cycle position i) 3) log.old }
-{
-    if !last {
-        return;
-    }
-    if ended {
-        return;
-    }
-    if finishes(ran, res, i) {
-        return;
-    }
-    write(log, periods, cycle, position, i, 3);
-}
-
-// At a release a fresh job begins: it has used nothing,
-pub(crate) fn renew_used(used: &mut [u32; 16], i: usize, anew: bool)
-    requires { i < 16 }
-    ensures { used.new ≡ choose anew (slice_set used.old i 0) used.old }
-{
-    if !anew {
-        return;
-    }
-    used[i] = 0;
-}
-
-// and it has not ended. At a deadline before that the job is closed: it has ended.
-pub(crate) fn renew_ended(ended: &mut [bool; 16], i: usize, last: bool, anew: bool)
-    requires { i < 16 }
-    ensures { ended.new ≡ choose anew (slice_set ended.old i false) (choose last (slice_set ended.old i true) ended.old) }
-{
-    if anew {
-        ended[i] = false;
-        return;
-    }
-    if !last {
-        return;
-    }
-    ended[i] = true;
 }

@@ -8,8 +8,8 @@ mod close; // refusals 12 to 14, and what a slice does
 ghost use Rattle.std.specs.Prelude.{◌≡◌, ◌/◌, ◌<◌, nat_lt};
 ghost use Rattle.basis.specs.Choose.{choose};
 ghost use Rattle.run.specs.State.{place_in};
-ghost use Rattle.run.specs.Who.{who_of};
-ghost use Rattle.run.specs.Step.{state_of, SteppedIn, Stepped};
+ghost use Rattle.run.specs.Who.{number_of, who_of};
+ghost use Rattle.run.specs.Step.{SteppedIn, Stepped};
 
 // How a run goes: by the table, or filling freed slices.
 #[derive(Clone, Copy)]
@@ -34,24 +34,38 @@ pub struct State {
     pub mode: Mode,
 }
 
-// Who runs in the slice at the state's position: nobody, a task by its number, or a refusal.
-#[derive(Clone, Copy)]
-pub enum Runner {
-    Idle,
-    Task(usize),
-    Refused(u32),
+// Why asking who runs, or a step, is refused.
+#[derive(Clone, Copy, PartialEq, Eq)]
+pub enum Refusal {
+    Unsound, // the state is not sound
+    Over, // the run is over
+    NoEntry, // the table has no entry for the slice
+    ShortLog, // the log is shorter than the job count
+    ClockJumped, // the clock reading is not one more than the last
+    WrongReport, // the report is above 1, or a job finished in an idle slice
 }
 
-// What a step comes to.
-#[derive(Clone, Copy)]
-pub enum Closed {
-    Accepted,
-    Refused(u32),
+impl Refusal {
+    // The number of refusal.
+    #[tactic(auto, unfolding(crate::specs::Who::number_of))]
+    pub fn number(self) -> u32
+        ensures { result ≡ number_of self }
+    {
+        match self {
+            Refusal::Unsound => 9,
+            Refusal::Over => 10,
+            Refusal::NoEntry => 11,
+            Refusal::ShortLog => 12,
+            Refusal::ClockJumped => 13,
+            Refusal::WrongReport => 14,
+        }
+    }
 }
 
+// What a step by value comes to.
 #[derive(Clone, Copy)]
 pub struct Next {
-    pub answer: Closed,
+    pub answer: Result<(), Refusal>,
     pub state: State,
 }
 
@@ -73,142 +87,45 @@ pub fn place(periods: &[u32; 16], cycle: u32, position: u32, i: usize) -> usize
         return 0;
     }
     let mut jobs: usize = 0;
-    let mut j = 0;
-    while j < i {
+    for j in 0..i {
         jobs += times(cycle, periods[j]);
-        j += 1;
     }
     jobs + times(position, periods[i])
 }
 
-// Who runs in the next slice.
-pub fn who(state: State, table: &[u8]) -> Runner
+// Who runs in the next slice: a task by its number, or nobody.
+pub fn who(state: State, table: &[u8]) -> Result<Option<usize>, Refusal>
     ensures { result ≡ who_of state table.now }
 {
-    let mode = state.mode;
-    let jobs = sound::jobs_if_sound(
-        &state.periods,
-        &state.deadlines,
-        &state.runtimes,
-        &state.used,
-        &state.ended,
-        state.count,
-        state.cycle,
-        state.position,
-    );
-    let asked = ask::ask(
-        &state.deadlines,
-        &state.ended,
-        state.count,
-        state.cycle,
-        state.position,
-        jobs,
-        mode,
-        table,
-    );
-    if asked.number != 0 {
-        return Runner::Refused(asked.number);
-    }
-    if asked.ran == 0 {
-        return Runner::Idle;
-    }
-    Runner::Task(asked.ran)
+    let asked = ask::ask(&state, table)?;
+    Ok(asked.ran)
 }
 
-// Closes a slice of a state that lies in arrays of the caller's: the clock reading and the report of the job that ran in it.
-// `last` is the clock of the state. Accepted, the caller raises its position by one and keeps the reading as its clock; refused,
-// nothing has changed.
-pub fn step_in_place<'a>(
-    periods: &'a [u32; 16],
-    deadlines: &'a [u32; 16],
-    runtimes: &'a [u32; 16],
-    used: &mut [u32; 16],
-    ended: &mut [bool; 16],
-    count: usize,
-    cycle: u32,
-    position: u32,
-    last: u32,
-    mode: Mode,
+// Closes a slice: the clock reading and the report of the job that ran in it. Refused, nothing has changed.
+pub fn step_in_place(
+    state: &mut State,
     table: &[u8],
     log: &mut [u8],
     clock: u32,
     report: u8,
-) -> Closed
-    ensures { SteppedIn (state_of periods.now deadlines.now runtimes.now used.old ended.old count cycle position last mode) table.now clock report log.old log.new used.new ended.new result }
+) -> Result<(), Refusal>
+    ensures { SteppedIn state.old table.now clock report log.old log.new state.new result }
 {
-    let jobs = sound::jobs_if_sound(
-        periods, deadlines, runtimes, used, ended, count, cycle, position,
-    );
-    let asked = ask::ask(deadlines, ended, count, cycle, position, jobs, mode, table);
-    if asked.number != 0 {
-        return Closed::Refused(asked.number);
+    let asked = ask::ask(state, table)?;
+    close::check(&asked, log.len(), state.clock, clock, report)?;
+    close::serve(state, log, asked.ran, report);
+    for i in 0..state.count {
+        close::turn(state, log, i);
     }
-    let ran = asked.ran;
-    let found = close::step_refusal(asked.jobs, log.len(), last, clock, ran, report);
-    if found != 0 {
-        return Closed::Refused(found);
-    }
-    let in_all = close::use_slice(used, ran);
-    let result = close::result_of(runtimes, ran, in_all, report);
-    close::mark_result(log, periods, cycle, position, ran, result);
-    close::end_job(ended, ran, result);
-    let mut i = 0;
-    while i < count {
-        let period = periods[i];
-        let age = position % period + 1;
-        let last = age == deadlines[i];
-        close::mark_late(
-            log, periods, cycle, position, i, last, ended[i], ran, result,
-        );
-        close::renew_used(used, i, age == period);
-        close::renew_ended(ended, i, last, age == period);
-        i += 1;
-    }
-    Closed::Accepted
+    state.position += 1;
+    state.clock = clock;
+    Ok(())
 }
 
 // Closes a slice of a state by value. A refused step gives back the state that it got.
-pub fn step(state: State, table: &[u8], log: &mut [u8], clock: u32, report: u8) -> Next
+pub fn step(mut state: State, table: &[u8], log: &mut [u8], clock: u32, report: u8) -> Next
     ensures { Stepped state table.now clock report log.old log.new result }
 {
-    let mode = state.mode;
-    let periods = state.periods;
-    let deadlines = state.deadlines;
-    let runtimes = state.runtimes;
-    let mut used = state.used;
-    let mut ended = state.ended;
-    let answer = step_in_place(
-        &periods,
-        &deadlines,
-        &runtimes,
-        &mut used,
-        &mut ended,
-        state.count,
-        state.cycle,
-        state.position,
-        state.clock,
-        mode,
-        table,
-        log,
-        clock,
-        report,
-    );
-    let Closed::Accepted = answer else {
-        return Next { answer, state };
-    };
-    Next {
-        answer,
-        state: State {
-            periods,
-            deadlines,
-            runtimes,
-            used,
-            ended,
-            count: state.count,
-            cycle: state.cycle,
-            position: state.position + 1,
-            clock,
-            mode,
-        },
-    }
+    let answer = step_in_place(&mut state, table, log, clock, report);
+    Next { answer, state }
 }

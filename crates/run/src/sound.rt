@@ -1,30 +1,21 @@
 // Refusal 9: state not sound.
-ghost use Rattle.std.specs.Prelude.{◌≡◌, ◌%◌, ◌≤◌};
-ghost use Rattle.basis.specs.Choose.{within};
-ghost use Rattle.run.specs.State.{sound_task};
-ghost use Rattle.run.specs.Shapes.{job, jobs_of, jobs_if_sound};
+ghost use Rattle.std.specs.Prelude.{◌≡◌, ◌<◌, ◌≤◌};
+ghost use Rattle.run.specs.Shapes.{sound_at, jobs_of, jobs_if_sound};
 
-fn is_within(low: u32, high: u32, x: u32) -> bool
-    ensures { result ≡ within low high x }
-{
-    if x < low { false } else { x <= high }
-}
+use crate::State;
 
-fn sound_task(
-    cycle: u32,
-    position: u32,
-    period: u32,
-    deadline: u32,
-    runtime: u32,
-    used: u32,
-    ended: bool,
-) -> bool
-    ensures { result ≡ sound_task cycle period deadline runtime (position % period) (job used ended) }
+fn is_task_sound(state: &State, i: usize) -> bool
+    requires { i < 16 }
+    ensures { result ≡ sound_at state.now i }
 {
-    if !is_within(1, 4096, period) {
+    let period = state.periods[i];
+    let deadline = state.deadlines[i];
+    let runtime = state.runtimes[i];
+    let used = state.used[i];
+    if period < 1 || 4096 < period {
         return false;
     }
-    if cycle % period != 0 {
+    if state.cycle % period != 0 {
         return false;
     }
     if runtime == 0 {
@@ -39,7 +30,7 @@ fn sound_task(
     if runtime < used {
         return false;
     }
-    if ended {
+    if state.ended[i] {
         return true;
     }
     if used == runtime {
@@ -49,70 +40,36 @@ fn sound_task(
     if deadline == period {
         return true;
     }
-    position % period < deadline
+    state.position % period < deadline
 }
 
-// The jobs of all tasks, or 0 where one of them is not sound.
-fn count_jobs<'a>(
-    periods: &'a [u32; 16],
-    deadlines: &'a [u32; 16],
-    runtimes: &'a [u32; 16],
-    used: &'a [u32; 16],
-    ended: &'a [bool; 16],
-    count: usize,
-    cycle: u32,
-    position: u32,
-) -> u32
-    requires { (1 ≤ count) × (count ≤ 16) × (1 ≤ cycle) × (cycle ≤ 4096) }
-    ensures { result ≡ jobs_of periods.now deadlines.now runtimes.now used.now ended.now count cycle position }
+// The jobs of all tasks, unless one of them is not sound.
+fn count_jobs(state: &State) -> Option<u32>
+    requires { (state.now.count ≤ 16) × (state.now.cycle ≤ 4096) }
+    ensures { result ≡ jobs_of state.now }
 {
     let mut jobs: u32 = 0;
-    let mut i = 0;
-    while i < count {
-        let period = periods[i];
-        if !sound_task(
-            cycle,
-            position,
-            period,
-            deadlines[i],
-            runtimes[i],
-            used[i],
-            ended[i],
-        ) {
-            return 0;
+    for i in 0..state.count {
+        if !is_task_sound(state, i) {
+            return None;
         }
-        jobs += cycle / period;
-        i += 1;
+        jobs += state.cycle / state.periods[i];
     }
-    jobs
+    Some(jobs)
 }
 
-// The job count of a sound state, 0 of any other. Places beyond the task count are not looked at.
-pub(crate) fn jobs_if_sound<'a>(
-    periods: &'a [u32; 16],
-    deadlines: &'a [u32; 16],
-    runtimes: &'a [u32; 16],
-    used: &'a [u32; 16],
-    ended: &'a [bool; 16],
-    count: usize,
-    cycle: u32,
-    position: u32,
-) -> u32
-    ensures { result ≡ jobs_if_sound periods.now deadlines.now runtimes.now used.now ended.now count cycle position }
+// The job count of a sound state. Places beyond the task count are not looked at.
+pub(crate) fn jobs_if_sound(state: &State) -> Option<u32>
+    ensures { result ≡ jobs_if_sound state.now }
 {
-    if count < 1 {
-        return 0;
+    if state.count < 1 || 16 < state.count {
+        return None;
     }
-    if 16 < count {
-        return 0;
+    if state.cycle < 1 || 4096 < state.cycle {
+        return None;
     }
-    if !is_within(1, 4096, cycle) {
-        return 0;
+    if state.cycle < state.position {
+        return None;
     }
-    if cycle < position {
-        return 0;
-    }
-    count_jobs(
-        periods, deadlines, runtimes, used, ended, count, cycle, position,
-    )
+    count_jobs(state)
 }

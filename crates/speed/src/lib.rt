@@ -2,18 +2,15 @@
 // and promises nothing of its own; what is called behind it has the contracts.
 #![tactic(auto)]
 
-ghost use Rattle.std.specs.Prelude.{◌+◌, ◌<◌, ◌≤◌, length};
-
 use explain::Viewed;
-use quick::Quick;
-use run::{Closed, Runner};
-use start::{Asked, Begun, Started};
-use tasks::{Task, TaskList};
-use verdict::Verdict;
+use run::Mode;
+use start::Started;
+use tasks::{Refusal, Task, TaskList};
+use verdict::{Accepted, Verdict};
 
 // A verdict, a quick answer or a start in numbers: refusal number (0: accepted), margin, cycle, job count, clash and task.
 #[repr(C)]
-#[derive(Clone, Copy)]
+#[derive(Clone, Copy, Default)]
 pub struct Answer {
     pub number: u32,
     pub margin: i32,
@@ -27,7 +24,7 @@ pub struct Answer {
 // What a call of the viewer's comes to, in numbers: refusal number (0: none), margin, clash, task or place of 18; how much was
 // given; and 1 for a no.
 #[repr(C)]
-#[derive(Clone, Copy)]
+#[derive(Clone, Copy, Default)]
 pub struct Shown {
     pub number: u32,
     pub margin: i32,
@@ -38,100 +35,98 @@ pub struct Shown {
     pub no: u32,
 }
 
-// How many of a list's tasks are copied.
-fn kept(count: usize) -> usize
-    ensures { (result ≤ 16) × (result ≤ count) }
-{
-    if count < 16 { count } else { 16 }
-}
-
-// The task whose four numbers begin at a place.
-fn task_at(numbers: &[u32], at: usize) -> Task
-    requires { at + 3 < length numbers.now }
-{
-    Task {
-        period: numbers[at],
-        runtime: numbers[at + 1],
-        memory: numbers[at + 2],
-        deadline: numbers[at + 3],
+impl From<Accepted> for Answer {
+    fn from(accepted: Accepted) -> Answer {
+        Answer {
+            cycle: accepted.cycle,
+            jobs: accepted.jobs,
+            task: accepted.task,
+            margin: accepted.margin,
+            ..Answer::default()
+        }
     }
 }
 
-// The list of numbers: period, run-time, memory and deadline of a task, then of the next.
-fn list_of(numbers: &[u32]) -> TaskList {
-    let count = numbers.len() / 4;
-    let mut list = TaskList {
-        tasks: [Task {
-            period: 0,
-            runtime: 0,
-            memory: 0,
-            deadline: 0,
-        }; 16],
-        count,
-    };
-    let most = kept(count);
-    let mut i = 0;
-    while i < most {
-        let task = task_at(numbers, i * 4);
-        list.tasks[i] = task;
-        i += 1;
+impl From<Refusal> for Answer {
+    fn from(refusal: Refusal) -> Answer {
+        Answer {
+            number: refusal.number(),
+            task: refusal.task(),
+            margin: refusal.margin(),
+            reached: refusal.reached(),
+            period: refusal.period(),
+            ..Answer::default()
+        }
     }
-    list
 }
 
-// A refusal that says nothing but its task; number 0: none.
-fn of_numbers(number: u32, task: usize) -> Answer {
-    Answer {
-        number,
-        margin: 0,
-        cycle: 0,
-        jobs: 0,
-        reached: 0,
-        period: 0,
-        task,
+impl From<Refusal> for Shown {
+    fn from(refusal: Refusal) -> Shown {
+        Shown {
+            number: refusal.number(),
+            task: refusal.task(),
+            margin: refusal.margin(),
+            reached: refusal.reached(),
+            period: refusal.period(),
+            ..Shown::default()
+        }
     }
 }
 
 fn of_verdict(verdict: Verdict) -> Answer {
     match verdict {
-        Verdict::Accepted {
-            cycle,
-            jobs,
-            task,
-            margin,
-        } => Answer {
-            number: 0,
-            margin,
-            cycle,
-            jobs,
-            reached: 0,
-            period: 0,
-            task,
-        },
-        Verdict::Refused {
-            number,
-            task,
-            margin,
-            reached,
-            period,
-        } => Answer {
-            number,
-            margin,
-            cycle: 0,
-            jobs: 0,
-            reached,
-            period,
-            task,
-        },
+        Ok(accepted) => Answer::from(accepted),
+        Err(refusal) => Answer::from(refusal),
     }
+}
+
+fn of_viewed(viewed: Viewed) -> Shown {
+    match viewed {
+        Ok(Some(given)) => Shown {
+            given,
+            ..Shown::default()
+        },
+        Ok(None) => Shown {
+            no: 1,
+            ..Shown::default()
+        },
+        Err(refusal) => Shown::from(refusal),
+    }
+}
+
+// What stands where a list has no task.
+const NO_TASK: Task = Task {
+    period: 0,
+    runtime: 0,
+    memory: 0,
+    deadline: 0,
+};
+
+// The list of numbers: period, run-time, memory and deadline of a task, then of the next.
+fn list_of(numbers: &[u32]) -> TaskList {
+    let mut list = TaskList {
+        tasks: [NO_TASK; 16],
+        count: numbers.len() / 4,
+    };
+    for (task, four) in list.tasks.iter_mut().zip(numbers.chunks_exact(4)) {
+        if let &[period, runtime, memory, deadline] = four {
+            *task = Task {
+                period,
+                runtime,
+                memory,
+                deadline,
+            };
+        }
+    }
+    list
 }
 
 // Mode 0 is by the table, 1 is filling; of any other, none is named.
 fn begin(numbers: &[u32], supply: u32, mode: u32, clock: u32, log: &mut [u8]) -> Started {
     let asked = match mode {
-        0 => Asked::Table,
-        1 => Asked::Filling,
-        _ => Asked::Unnamed,
+        0 => Some(Mode::Table),
+        1 => Some(Mode::Filling),
+        _ => None,
     };
     start::start(list_of(numbers), supply, asked, clock, log)
 }
@@ -142,12 +137,16 @@ pub extern "C" fn speed_judge(numbers: &[u32], supply: u32) -> Answer {
     of_verdict(verdict::judge(list_of(numbers), supply))
 }
 
-// The quick question.
+// The quick question, which answers a number and a task, and no clash.
 #[unsafe(no_mangle)]
 pub extern "C" fn speed_quick(numbers: &[u32], supply: u32) -> Answer {
     match quick::ask(list_of(numbers), supply) {
-        Quick::Accepted => of_numbers(0, 0),
-        Quick::Refused { number, task } => of_numbers(number, task),
+        Ok(()) => Answer::default(),
+        Err(refusal) => Answer {
+            number: refusal.number(),
+            task: refusal.task(),
+            ..Answer::default()
+        },
     }
 }
 
@@ -167,42 +166,12 @@ pub extern "C" fn speed_start(
     log: &mut [u8],
 ) -> Answer {
     let started = begin(numbers, supply, mode, clock, log);
-    let answer = started.answer;
-    let cycle = started.state.cycle;
-    match answer {
-        Begun::Accepted => Answer {
-            number: 0,
-            margin: 0,
-            cycle,
-            jobs: 0,
-            reached: 0,
-            period: 0,
-            task: 0,
+    match started.answer {
+        Ok(()) => Answer {
+            cycle: started.state.cycle,
+            ..Answer::default()
         },
-        Begun::Refused {
-            number,
-            task,
-            margin,
-            reached,
-            period,
-        } => Answer {
-            number,
-            margin,
-            cycle,
-            jobs: 0,
-            reached,
-            period,
-            task,
-        },
-    }
-}
-
-// The task that runs, 0 for none.
-fn task_of(runner: Runner) -> usize {
-    match runner {
-        Runner::Idle => 0,
-        Runner::Task(task) => task,
-        Runner::Refused(_) => 0,
+        Err(refusal) => Answer::from(refusal),
     }
 }
 
@@ -215,24 +184,15 @@ pub extern "C" fn speed_who(
     table: &[u8],
     log: &mut [u8],
 ) -> usize {
-    let started = begin(numbers, supply, mode, 0, log);
-    let mut state = started.state;
-    let cycle = state.cycle;
-    let mut sum = 0;
-    let mut p = 0;
-    while p < cycle {
-        state.position = p;
-        sum = std::num::wrapping_add_usize(sum, task_of(run::who(state, table)));
-        p += 1;
+    let mut state = begin(numbers, supply, mode, 0, log).state;
+    let mut sum: usize = 0;
+    for position in 0..state.cycle {
+        state.position = position;
+        if let Ok(Some(task)) = run::who(state, table) {
+            sum = sum.wrapping_add(task);
+        }
     }
     sum
-}
-
-fn number_of(answer: Closed) -> u32 {
-    match answer {
-        Closed::Accepted => 0,
-        Closed::Refused(number) => number,
-    }
 }
 
 // A run through so many steps in place, one for each report: the number of the first refusal, 0 if there is none.
@@ -246,42 +206,12 @@ pub extern "C" fn speed_steps(
     log: &mut [u8],
     reports: &[u8],
 ) -> u32 {
-    let started = begin(numbers, supply, mode, clock, log);
-    let state = started.state;
-    let by = state.mode;
-    let periods = state.periods;
-    let deadlines = state.deadlines;
-    let runtimes = state.runtimes;
-    let mut used = state.used;
-    let mut ended = state.ended;
-    let mut position = state.position;
-    let mut last = state.clock;
-    let mut p = 0;
-    while p < reports.len() {
-        let reading = std::num::wrapping_add_u32(last, 1);
-        let answer = run::step_in_place(
-            &periods,
-            &deadlines,
-            &runtimes,
-            &mut used,
-            &mut ended,
-            state.count,
-            state.cycle,
-            position,
-            last,
-            by,
-            table,
-            log,
-            reading,
-            reports[p],
-        );
-        let number = number_of(answer);
-        if number != 0 {
-            return number;
+    let mut state = begin(numbers, supply, mode, clock, log).state;
+    for &report in reports {
+        let reading = state.clock.wrapping_add(1);
+        if let Err(refusal) = run::step_in_place(&mut state, table, log, reading, report) {
+            return refusal.number();
         }
-        position = std::num::wrapping_add_u32(position, 1);
-        last = reading;
-        p += 1;
     }
     0
 }
@@ -297,58 +227,17 @@ pub extern "C" fn speed_steps_by_value(
     log: &mut [u8],
     reports: &[u8],
 ) -> u32 {
-    let started = begin(numbers, supply, mode, clock, log);
-    let mut state = started.state;
+    let mut state = begin(numbers, supply, mode, clock, log).state;
     let mut reading = clock;
-    let mut p = 0;
-    while p < reports.len() {
-        reading = std::num::wrapping_add_u32(reading, 1);
-        let next = run::step(state, table, log, reading, reports[p]);
-        let answer = next.answer;
-        let number = number_of(answer);
-        if number != 0 {
-            return number;
+    for &report in reports {
+        reading = reading.wrapping_add(1);
+        let next = run::step(state, table, log, reading, report);
+        if let Err(refusal) = next.answer {
+            return refusal.number();
         }
-        let after = next.state;
-        state = after;
-        p += 1;
+        state = next.state;
     }
     0
-}
-
-// No refusal: so much is given, or no.
-fn not_refused(given: usize, no: u32) -> Shown {
-    Shown {
-        number: 0,
-        margin: 0,
-        reached: 0,
-        period: 0,
-        task: 0,
-        given,
-        no,
-    }
-}
-
-fn of_viewed(viewed: Viewed) -> Shown {
-    match viewed {
-        Viewed::Given(given) => not_refused(given, 0),
-        Viewed::No => not_refused(0, 1),
-        Viewed::Refused {
-            number,
-            task,
-            margin,
-            reached,
-            period,
-        } => Shown {
-            number,
-            margin,
-            reached,
-            period,
-            task,
-            given: 0,
-            no: 0,
-        },
-    }
 }
 
 // A run written as a Value Change Dump.

@@ -1,17 +1,14 @@
 -- A start: the list is checked anew, and the run begins at slice 0 with every job fresh and the log cleared to no result.
-use Rattle.std.specs.Prelude.{◌≡◌, List, false, ℕ, ltb, pos, length, replicate}
+use Rattle.std.specs.Prelude.{◌≡◌, List, false, ℕ, ltb, length, replicate, Option, Some, None, Result, Ok, Err}
 use Rattle.basis.specs.Choose.{choose}
 use Rattle.basis.specs.Bytes.{overwrite}
 use Rattle.basis.specs.Answer.{Answer, none}
 use Rattle.tasks.specs.declared.TaskList.{TaskList}
 use Rattle.tasks.specs.List.{task_at, due_of, runtime_of}
-use Rattle.verdict.specs.declared.Verdict.{Verdict}
-use Rattle.verdict.specs.declared.Verdict.TheVariants as verdict
-use Rattle.verdict.specs.Verdict.{verdict_of}
-use Rattle.start.specs.declared.Asked.{Asked}
-use Rattle.start.specs.declared.Asked.TheVariants as asked
-use Rattle.start.specs.declared.Begun.{Begun}
-use Rattle.start.specs.declared.Begun.TheVariants as begun
+use Rattle.tasks.specs.declared.refusals.Refusal.{Refusal}
+use Rattle.tasks.specs.declared.refusals.Refusal.TheVariants.{ShortLog}
+use Rattle.tasks.specs.Refusal.{refusal_answer}
+use Rattle.verdict.specs.Verdict.{Verdict, verdict_of}
 use Rattle.run.specs.declared.Mode.{Mode}
 use Rattle.run.specs.declared.Mode.TheVariants as mode
 use Rattle.run.specs.declared.State.{State}
@@ -19,10 +16,9 @@ use Rattle.start.specs.declared.Started.{Started}
 
 -- ---- the state
 -- A start with no mode named fills freed slices.
-unfoldable pub mode_of : Asked → Mode
-mode_of asked.Table = mode.Table
-mode_of asked.Filling = mode.Filling
-mode_of asked.Unnamed = mode.Filling
+unfoldable pub mode_of : Option Mode → Mode
+mode_of (Some named) = named
+mode_of None = mode.Filling
 
 -- Every job fresh, at slice 0, with no job ended. Task places beyond the task count are 0.
 unfoldable pub start_state : TaskList → ℕ → Mode → ℕ → State
@@ -57,25 +53,25 @@ no_run =
     }
 
 -- ---- the answer: refusals 1 to 7 and 20 as the verdict gives them, then 12: log shorter than the job count
-unfoldable pub begun_of : Verdict → ℕ → Begun
-begun_of (verdict.Refused number task margin reached period) room = begun.Refused number task margin reached period
-begun_of (verdict.Accepted cycle jobs task margin) room = choose (ltb room jobs) (begun.Refused 12 0 (pos 0) 0 0) begun.Accepted
+unfoldable pub begun_of : Verdict → ℕ → Result (Unit {0}) Refusal
+begun_of (Err r) room = Err r
+begun_of (Ok a) room = choose (ltb room a.jobs) (Err ShortLog) (Ok tt)
 
-unfoldable pub begun_state : TaskList → Asked → ℕ → Verdict → ℕ → State
-begun_state l asked clock (verdict.Refused number task margin reached period) room = no_run
-begun_state l asked clock (verdict.Accepted cycle jobs task margin) room = choose (ltb room jobs) no_run (start_state l cycle (mode_of asked) clock)
+unfoldable pub begun_state : TaskList → Option Mode → ℕ → Verdict → ℕ → State
+begun_state l asked clock (Err r) room = no_run
+begun_state l asked clock (Ok a) room = choose (ltb room a.jobs) no_run (start_state l a.cycle (mode_of asked) clock)
 
 -- It writes 0 into the first job-count bytes of the log. Refused, it writes nothing.
 unfoldable pub begun_log : Verdict → List ℕ → List ℕ
-begun_log (verdict.Refused number task margin reached period) log = log
-begun_log (verdict.Accepted cycle jobs task margin) log = choose (ltb (length log) jobs) log (overwrite (λ _. 0) jobs log)
+begun_log (Err r) log = log
+begun_log (Ok a) log = choose (ltb (length log) a.jobs) log (overwrite (λ _. 0) a.jobs log)
 
-pub record Begins (l : TaskList) (supply : ℕ) (asked : Asked) (clock : ℕ) (log log' : List ℕ) (r : Started) : Type 0 where
+pub record Begins (l : TaskList) (supply : ℕ) (asked : Option Mode) (clock : ℕ) (log log' : List ℕ) (r : Started) : Type 0 where
   pub answer : r.answer ≡ begun_of (verdict_of l supply) (length log)
   pub state : r.state ≡ begun_state l asked clock (verdict_of l supply) (length log)
   pub bytes : log' ≡ begun_log (verdict_of l supply) log
 
 -- The paper's values of each case.
-unfoldable pub begun_answer : Begun → Answer
-begun_answer begun.Accepted = none
-begun_answer (begun.Refused number task margin reached period) = record { number = number; task = task; margin = margin; cycle = 0; jobs = 0; reached = reached; period = period }
+unfoldable pub begun_answer : Result (Unit {0}) Refusal → Answer
+begun_answer (Ok _) = none
+begun_answer (Err r) = refusal_answer r

@@ -1,5 +1,5 @@
 -- What a list that keeps all bounds is like, said without numbers of refusal; and that its cycle is the least common multiple of its periods.
-use Rattle.std.specs.Prelude.{◌≡◌, refl, List, not, ◌↔◌, ltb, eqb}
+use Rattle.std.specs.Prelude.{◌≡◌, refl, List, not, ◌↔◌, ltb, eqb, Ok, Err}
 use Rattle.std.proofs.Common.{sym, ap, subst, ◌∙◌, inl, inr, ⊎_elim, pos_of_ne-zero, le-ltb, ltb-false, eq-eqb, ne_eqb}
 use Prim.Native.Nat.{ℕ, zero, suc, ◌≤◌, ◌<◌, ◌∣◌}
 use native.Mathlib.Omega.{arith}
@@ -7,11 +7,13 @@ use Rattle.std.proofs.Math.Nat.{one-dvd, dvd_trans, le_of_dvd}
 use Rattle.std.proofs.lemmas.Bool.{eqb-false, not-false}
 use Rattle.basis.specs.Choose.{choose, choose_yes, choose_no, choose_either, eq_or_ne, below_suc, within, within_tells, is_within}
 use Rattle.basis.specs.Sum.{sum_grows}
-use Rattle.basis.specs.Answer.{Answer, refusal, none, ◌or_else◌, first_found, else_none, none_else, found_none, none_found, passed_if, passed_by, alike, first_all, clash, none_number}
+use Rattle.basis.specs.Answer.{Answer, refusal, none, ◌or_else◌, first_found, else_none, none_else, found_none, none_found, passed_if, passed_by, first_all, clash, none_number}
 use Rattle.tasks.specs.declared.Task.{Task}
 use Rattle.tasks.specs.declared.TaskList.{TaskList}
 use Rattle.plan.specs.Plan.{Sound, Monotonic}
-use Rattle.tasks.specs.declared.Bounds.TheVariants.{Kept, Broken}
+use Rattle.tasks.specs.declared.InBounds.{InBounds}
+use Rattle.tasks.specs.declared.refusals.Refusal.{Refusal}
+use Rattle.tasks.specs.Refusal.{refusal_answer, bound_refusal, unless_broken}
 use Rattle.tasks.specs.List.{task_at, plan_of}
 use Rattle.tasks.specs.Euclid.{LeastCommonMultiple}
 use Rattle.tasks.proofs.Euclid.{lcm_is_least, lcm_pos}
@@ -120,7 +122,7 @@ module _ (l : TaskList) (supply : ℕ) where
   unfolding of_memory memory_sum refusal
   memory_none p = running_none (memory_sum l.tasks) supply _ (λ i z. omega arith) l.count p (λ i li. sum_grows (λ j. (task_at l.tasks j).memory) i l.count li)
 
-  cycle_none : 1 ≤ l.count → PeriodsPos l.tasks l.count → ((first_found (of_cycle l.tasks) l.count).number ≡ 0) ↔ (cycle_of l ≤ 4096)
+  pub cycle_none : 1 ≤ l.count → PeriodsPos l.tasks l.count → ((first_found (of_cycle l.tasks) l.count).number ≡ 0) ↔ (cycle_of l ≤ 4096)
   unfolding of_cycle cycle_of clash
   cycle_none p h = running_none (multiple l.tasks) 4096 _ (λ i z. omega arith) l.count p (λ i li. multiple_grows l.tasks i l.count h li)
 
@@ -182,24 +184,29 @@ module _ (l : TaskList) (supply : ℕ) (K : KeepsBounds l supply) where
   period_within_cycle i li = le_of_dvd cycle_pos (period_divides_cycle i li)
 
 -- ---- the answer
--- Kept is answered exactly for a list that keeps all bounds, with its cycle and job count.
-pub bounds_kept : (l : TaskList) (supply : ℕ) → KeepsBounds l supply → bounds_of l supply ≡ Kept (cycle_of l) (jobs_of l)
-unfolding bounds_of answer
+-- What the list comes to where it keeps all bounds.
+abbrev in_bounds : TaskList → InBounds
+in_bounds l = record { cycle = cycle_of l; jobs = jobs_of l }
+
+-- That is answered exactly for a list that keeps all bounds, with its cycle and job count.
+pub bounds_kept : (l : TaskList) (supply : ℕ) → KeepsBounds l supply → bounds_of l supply ≡ Ok (in_bounds l)
+unfolding bounds_of answer unless_broken
 bounds_kept l supply K = choose_yes (eqb (found l supply).number 0) _ _ (eq-eqb (found l supply).number 0 ((nothing_found l supply).1 K))
 
-pub bounds_broken : (l : TaskList) (supply : ℕ) → ((found l supply).number ≡ 0 → ⊥) → bounds_of l supply ≡ Broken (found l supply).number (found l supply).task (found l supply).reached (found l supply).period
-unfolding bounds_of answer
+pub bounds_broken : (l : TaskList) (supply : ℕ) → ((found l supply).number ≡ 0 → ⊥) → bounds_of l supply ≡ Err (bound_refusal (found l supply))
+unfolding bounds_of answer unless_broken
 bounds_broken l supply nz = choose_no (eqb (found l supply).number 0) _ _ (ne_eqb (found l supply).number 0 nz)
 
-pub kept_tells : (l : TaskList) (supply cycle jobs : ℕ) → bounds_of l supply ≡ Kept cycle jobs → KeptAs l supply cycle jobs
-kept_tells l supply cycle jobs e =
+pub kept_tells : (l : TaskList) (supply : ℕ) (k : InBounds) → bounds_of l supply ≡ Ok k → KeptAs l supply k.cycle k.jobs
+kept_tells l supply k e =
     ⊎_elim
     (λ (z : (found l supply).number ≡ 0).
     let K = (nothing_found l supply).0 z in
-    let same : Kept cycle jobs ≡ Kept (cycle_of l) (jobs_of l) = sym e ∙ bounds_kept l supply K in
-    record { keeps = K; cycle_is = cc; jobs_is = cc })
+    let both : Ok k ≡ Ok (in_bounds l) = sym e ∙ bounds_kept l supply K in
+    let same : k ≡ in_bounds l = cc in
+    record { keeps = K; cycle_is = ap (λ (x : InBounds). x.cycle) same; jobs_is = ap (λ (x : InBounds). x.jobs) same })
     (λ (nz : (found l supply).number ≡ 0 → ⊥).
-    let never : Kept cycle jobs ≡ Broken (found l supply).number (found l supply).task (found l supply).reached (found l supply).period = sym e ∙ bounds_broken l supply nz in
+    let never : Ok k ≡ Err (bound_refusal (found l supply)) = sym e ∙ bounds_broken l supply nz in
     let z : ◌≡◌ {A = ℕ} 0 1 = cc in
     absurd (omega arith))
     (eq_or_ne (found l supply).number 0)
@@ -254,27 +261,62 @@ found_most l supply =
     (up_to_6 4 _ (tasks_most l.tasks l.count) (omega arith)))
     (up_to_6 2 _ (count_most l.count) (omega arith))
 
+-- ---- the refusal of a bound says what is found
+abbrev pub Said : Answer → Type 0
+Said f = (f.number ≡ 0 → ⊥) → refusal_answer (bound_refusal f) ≡ f
+
+none_said : Said none
+unfolding none refusal
+none_said some = absurd (some refl)
+
+count_said : (n : ℕ) → Said (of_count n)
+unfolding of_count refusal_answer bound_refusal refusal choose
+count_said n = choose_either Said (eqb n 0) (refusal 1 0) _ (λ _. refl) (choose_either Said (ltb 16 n) (refusal 2 0) none (λ _. refl) none_said)
+
+numbers_said : (p r d task : ℕ) → Said (of_numbers p r d task)
+unfolding of_numbers refusal_answer bound_refusal refusal choose
+numbers_said p r d task =
+    choose_either Said (not (within 1 4096 p)) (refusal 3 task) _ (λ _. refl)
+    (choose_either Said (not (within 1 p r)) (refusal 4 task) _ (λ _. refl)
+    (choose_either Said (not (within r p d)) (refusal 20 task) none (λ _. refl) none_said))
+
+memory_said : (ts : List Task) (supply i : ℕ) → Said (of_memory ts supply i)
+unfolding of_memory refusal_answer bound_refusal refusal choose
+memory_said ts supply i = choose_either Said _ (refusal 5 (suc i)) none (λ _. refl) none_said
+
+cycle_said : (ts : List Task) (i : ℕ) → Said (of_cycle ts i)
+unfolding of_cycle refusal_answer bound_refusal clash choose
+cycle_said ts i = choose_either Said _ (clash (suc i) _ _) none (λ _. refl) none_said
+
+pub found_said : (l : TaskList) (supply : ℕ) → Said (found l supply)
+unfolding found ◌or_else◌ of_task
+found_said l supply =
+    choose_either Said _ _ _
+    (choose_either Said _ _ _
+    (choose_either Said _ _ _ (first_all Said none_said (of_cycle l.tasks) (cycle_said l.tasks) l.count) (first_all Said none_said (of_memory l.tasks supply) (memory_said l.tasks supply) l.count))
+    (first_all Said none_said (of_task l.tasks) (λ i. numbers_said _ _ _ _) l.count))
+    (count_said l.count)
+
 -- A broken bound is answered by what is found.
 pub bounds_found : (l : TaskList) (supply : ℕ) → ((found l supply).number ≡ 0 → ⊥) → bounds_answer (bounds_of l supply) ≡ found l supply
 unfolding bounds_answer
-bounds_found l supply nz =
-    let h = found_most l supply in
-    ap bounds_answer (bounds_broken l supply nz) ∙ alike _ (found l supply) refl refl (sym h.margin_0) (sym h.cycle_0) (sym h.jobs_0) refl refl
+bounds_found l supply nz = ap bounds_answer (bounds_broken l supply nz) ∙ found_said l supply nz
 
-pub broken_tells : (l : TaskList) (supply number task reached period : ℕ) → bounds_of l supply ≡ Broken number task reached period → BrokenAs l supply number
-broken_tells l supply number task reached period e =
+pub broken_tells : (l : TaskList) (supply : ℕ) (r : Refusal) → bounds_of l supply ≡ Err r → BrokenAs l supply r
+broken_tells l supply r e =
     ⊎_elim
     (λ (z : (found l supply).number ≡ 0).
-    let never : Broken number task reached period ≡ Kept (cycle_of l) (jobs_of l) = sym e ∙ bounds_kept l supply ((nothing_found l supply).0 z) in
+    let never : Err r ≡ Ok (in_bounds l) = sym e ∙ bounds_kept l supply ((nothing_found l supply).0 z) in
     let zero_one : ◌≡◌ {A = ℕ} 0 1 = cc in
     absurd (omega arith))
     (λ (nz : (found l supply).number ≡ 0 → ⊥).
-    let same : Broken number task reached period ≡ Broken (found l supply).number (found l supply).task (found l supply).reached (found l supply).period = sym e ∙ bounds_broken l supply nz in
-    record { some = nz; number_is = cc })
+    let both : Err r ≡ Err (bound_refusal (found l supply)) = sym e ∙ bounds_broken l supply nz in
+    let same : r ≡ bound_refusal (found l supply) = cc in
+    record { some = nz; says = ap refusal_answer same ∙ found_said l supply nz })
     (eq_or_ne (found l supply).number 0)
 
 -- 7 is no bound's.
-pub broken_not_7 : (l : TaskList) (supply number task reached period : ℕ) → bounds_of l supply ≡ Broken number task reached period → number ≡ 7 → ⊥
-broken_not_7 l supply number task reached period e seven =
-    let is = (broken_tells l supply number task reached period e).number_is in
+pub broken_not_7 : (l : TaskList) (supply : ℕ) (r : Refusal) → bounds_of l supply ≡ Err r → (refusal_answer r).number ≡ 7 → ⊥
+broken_not_7 l supply r e seven =
+    let is = ap (λ (a : Answer). a.number) (broken_tells l supply r e).says in
     ⊎_elim (λ (low : (found l supply).number ≤ 6). absurd (omega (arith, is))) (λ (high : (found l supply).number ≡ 20). absurd (omega (arith, is))) (found_most l supply).to_most

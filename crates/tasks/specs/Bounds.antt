@@ -1,13 +1,14 @@
 -- What bounds a task list: refusals 1 to 6 and 20, in the order in which they are looked for, and the cycle and job count of a
 -- list that keeps all bounds.
-use Rattle.std.specs.Prelude.{List, not, ℕ, zero, suc, ◌/◌, ltb, eqb, pos}
+use Rattle.std.specs.Prelude.{List, not, ℕ, zero, suc, ◌/◌, ltb, eqb, pos, Result, Ok, Err}
 use Rattle.basis.specs.Choose.{choose, within}
 use Rattle.basis.specs.Sum.{sum}
 use Rattle.basis.specs.Answer.{Answer, refusal, clash, none, ◌or_else◌, first_found}
 use Rattle.tasks.specs.declared.Task.{Task}
 use Rattle.tasks.specs.declared.TaskList.{TaskList}
-use Rattle.tasks.specs.declared.Bounds.{Bounds}
-use Rattle.tasks.specs.declared.Bounds.TheVariants.{Kept, Broken}
+use Rattle.tasks.specs.declared.InBounds.{InBounds}
+use Rattle.tasks.specs.declared.refusals.Refusal.{Refusal}
+use Rattle.tasks.specs.Refusal.{refusal_answer, unless_broken}
 use Rattle.tasks.specs.List.{task_at}
 use Rattle.tasks.specs.Euclid.{lcm_of}
 
@@ -63,13 +64,13 @@ found l supply =
     or_else first_found (of_cycle l.tasks) l.count
 
 -- The answer: the refusal found, or else cycle and job count.
-unfoldable pub answer : Answer → ℕ → ℕ → Bounds
-answer f cycle jobs = choose (eqb f.number 0) (Kept cycle jobs) (Broken f.number f.task f.reached f.period)
+unfoldable pub answer : Answer → ℕ → ℕ → Result InBounds Refusal
+answer f cycle jobs = unless_broken f (record { cycle = cycle; jobs = jobs })
 
-unfoldable pub bounds_of : TaskList → ℕ → Bounds
+unfoldable pub bounds_of : TaskList → ℕ → Result InBounds Refusal
 bounds_of l supply = answer (found l supply) (cycle_of l) (jobs_of l)
 
 -- The paper's values of each case.
-unfoldable pub bounds_answer : Bounds → Answer
-bounds_answer (Kept cycle jobs) = record { number = 0; task = 0; margin = pos 0; cycle = cycle; jobs = jobs; reached = 0; period = 0 }
-bounds_answer (Broken number task reached period) = record { number = number; task = task; margin = pos 0; cycle = 0; jobs = 0; reached = reached; period = period }
+unfoldable pub bounds_answer : Result InBounds Refusal → Answer
+bounds_answer (Ok k) = record { number = 0; task = 0; margin = pos 0; cycle = k.cycle; jobs = k.jobs; reached = 0; period = 0 }
+bounds_answer (Err r) = refusal_answer r

@@ -4,6 +4,8 @@ use Prim.Native.Nat.{ℕ, ◌≤◌, ◌<◌}
 use Rattle.basis.specs.Answer.{Answer}
 use Rattle.tasks.specs.declared.Task.{Task}
 use Rattle.tasks.specs.declared.TaskList.{TaskList}
+use Rattle.tasks.specs.declared.refusals.Refusal.{Refusal}
+use Rattle.tasks.specs.Refusal.{refusal_answer}
 use Rattle.tasks.specs.List.{task_at}
 use Rattle.tasks.specs.Bounds.{memory_sum, cycle_of, jobs_of, found}
 
@@ -42,9 +44,9 @@ pub record UpTo (most : ℕ) (f : Answer) : Type 0 where
   pub jobs_0 : f.jobs ≡ 0
   pub no_clash : (f.number ≡ 6 → ⊥) → (f.reached ≡ 0) × (f.period ≡ 0)
 
-pub record BrokenAs (l : TaskList) (supply number : ℕ) : Type 0 where
+pub record BrokenAs (l : TaskList) (supply : ℕ) (r : Refusal) : Type 0 where
   pub some : (found l supply).number ≡ 0 → ⊥
-  pub number_is : number ≡ (found l supply).number
+  pub says : refusal_answer r ≡ found l supply
 
 -- The list keeps all bounds, of memory with some supply.
 pub record Bounded (l : TaskList) : Type 0 where

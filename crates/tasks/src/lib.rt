@@ -1,14 +1,17 @@
 // The task list by value, its cycle by Euclid's rule, and what bounds it: refusals 1 to 6 and 20.
 #![tactic(auto)]
 
+mod refusals; // why a call is refused
+
 ghost use Rattle.std.specs.Prelude.{◌≡◌, ℕ, ◌+◌, ◌≤◌, ◌<◌};
-ghost use Rattle.basis.specs.Choose.{within};
-ghost use Rattle.basis.specs.Answer.{◌or_else◌, first_found};
+ghost use Rattle.basis.specs.Answer.{first_found};
 ghost use Rattle.tasks.specs.List.{due_of, key_of, runtime_of};
 ghost use Rattle.tasks.specs.Euclid.{gcd_of, lcm_of};
-ghost use Rattle.tasks.specs.Bounds.{of_numbers, of_task, of_memory, bounds_of};
-ghost use Rattle.tasks.specs.Shapes.{as_answer, Finds, multiplied};
+ghost use Rattle.tasks.specs.Bounds.{of_numbers, of_task, of_memory, of_cycle, job_sum, cycle_of, bounds_of};
+ghost use Rattle.tasks.specs.Refusal.{unless_broken};
 ghost use Rattle.tasks.specs.Kept.{AllFit};
+
+pub use refusals::Refusal;
 
 // Period, run-time and deadline in slices, the deadline counted from the release; sample memory in words.
 #[derive(Clone, Copy)]
@@ -47,27 +50,11 @@ pub fn runtime_of(task: Task) -> u32
     task.runtime
 }
 
-// A refusal by its number, with the task that it names; number 0 where there is none.
+// What a list that keeps all bounds comes to: its cycle in slices, and the jobs in it.
 #[derive(Clone, Copy)]
-struct Finding {
-    number: u32,
-    task: usize,
-}
-
-// What the checks of a list's bounds come to. Refusal 6 says why: the multiple reached before the task, and the task's period,
-// which brings it above 4,096; of any other both are 0.
-#[derive(Clone, Copy)]
-pub enum Bounds {
-    Kept {
-        cycle: u32,
-        jobs: u32,
-    },
-    Broken {
-        number: u32,
-        task: usize,
-        reached: u32,
-        period: u32,
-    },
+pub struct InBounds {
+    pub cycle: u32,
+    pub jobs: u32,
 }
 
 // The greatest common divisor by Euclid's rule: the second number falls at each call.
@@ -84,153 +71,96 @@ pub fn lcm(a: u32, b: u32) -> u64
     if a == 0 {
         return 0;
     }
-    (a / gcd(a, b)) as u64 * b as u64
+    u64::from(a / gcd(a, b)) * u64::from(b)
 }
 
-fn is_within(low: u32, high: u32, x: u32) -> bool
-    ensures { result ≡ within low high x }
+// Refusals 3, 4 and 20 of the task of that number.
+fn check_task(task: &Task, number: usize) -> Result<(), Refusal>
+    ensures { result ≡ unless_broken (of_numbers task.now.period task.now.runtime task.now.deadline number) tt }
 {
-    if x < low { false } else { x <= high }
+    if !(1..=4096).contains(&task.period) {
+        return Err(Refusal::PeriodOutside { task: number });
+    }
+    if !(1..=task.period).contains(&task.runtime) {
+        return Err(Refusal::RuntimeOutside { task: number });
+    }
+    if !(task.runtime..=task.period).contains(&task.deadline) {
+        return Err(Refusal::DeadlineOutside { task: number });
+    }
+    Ok(())
 }
 
-fn of_task(period: u32, runtime: u32, deadline: u32, task: usize) -> Finding
-    ensures { as_answer result ≡ of_numbers period runtime deadline task }
+// The first task that is refused by 3, 4 or 20.
+fn check_tasks(list: &TaskList) -> Result<(), Refusal>
+    requires { list.now.count ≤ 16 }
+    ensures { result ≡ unless_broken (first_found (of_task list.now.tasks) list.now.count) tt }
 {
-    if !is_within(1, 4096, period) {
-        return Finding { number: 3, task };
+    for (i, task) in list.tasks[..list.count].iter().enumerate() {
+        check_task(task, i + 1)?;
     }
-    if !is_within(1, period, runtime) {
-        return Finding { number: 4, task };
-    }
-    if !is_within(runtime, period, deadline) {
-        return Finding { number: 20, task };
-    }
-    Finding { number: 0, task: 0 }
+    Ok(())
 }
 
-fn wide(x: u32) -> u64
-    ensures { (result ≡ x) × (result < 4294967296) }
+// The first at which the memory exceeds the supply.
+fn check_memory(list: &TaskList, supply: u32) -> Result<(), Refusal>
+    requires { list.now.count ≤ 16 }
+    ensures { result ≡ unless_broken (first_found (of_memory list.now.tasks supply) list.now.count) tt }
 {
-    x as u64
-}
-
-// The first task that is refused by 3, 4 or 20, or else the first at which the memory exceeds the supply. One function for
-// both, as each that goes through the tasks copies them.
-fn of_tasks(list: TaskList, supply: u32) -> Finding
-    requires { list.count ≤ 16 }
-    ensures { Finds (first_found (of_task list.tasks) list.count or_else first_found (of_memory list.tasks supply) list.count) result }
-{
-    let tasks = list.tasks;
-    let mut i = 0;
-    while i < list.count {
-        let t = tasks[i];
-        let found = of_task(t.period, t.runtime, t.deadline, i + 1);
-        if found.number != 0 {
-            return found;
-        }
-        i += 1;
-    }
     let mut sum: u64 = 0;
-    let mut j = 0;
-    while j < list.count {
-        let t = tasks[j];
-        sum += wide(t.memory);
-        if wide(supply) < sum {
-            return Finding {
-                number: 5,
-                task: j + 1,
-            };
+    for (i, task) in list.tasks[..list.count].iter().enumerate() {
+        sum += u64::from(task.memory);
+        if u64::from(supply) < sum {
+            return Err(Refusal::MemoryExceeded { task: i + 1 });
         }
-        j += 1;
     }
-    Finding { number: 0, task: 0 }
+    Ok(())
 }
 
-// What the periods come to: their least common multiple with its job count; or it was given up at a task, with the multiple
-// reached before it and the task's period, which brings it above 4,096.
-#[derive(Clone, Copy)]
-enum Multiple {
-    Reached {
-        multiple: u32,
-        jobs: u32,
-    },
-    GivenUp {
-        task: usize,
-        reached: u32,
-        period: u32,
-    },
-}
-
-fn of_cycle(list: TaskList) -> Multiple
-    requires { AllFit list }
-    ensures { result ≡ multiplied list.tasks list.count }
+// The least common multiple of the periods, given up where it rises above 4,096.
+fn cycle_of(list: &TaskList) -> Result<u32, Refusal>
+    requires { AllFit list.now }
+    ensures { result ≡ unless_broken (first_found (of_cycle list.now.tasks) list.now.count) (cycle_of list.now) }
 {
-    let tasks = list.tasks;
     let mut multiple: u32 = 1;
-    let mut i = 0;
-    while i < list.count {
-        let t = tasks[i];
-        let next = lcm(multiple, t.period);
+    for (i, task) in list.tasks[..list.count].iter().enumerate() {
+        let next = lcm(multiple, task.period);
         if 4096 < next {
-            return Multiple::GivenUp {
+            return Err(Refusal::CycleTooLong {
                 task: i + 1,
                 reached: multiple,
-                period: t.period,
-            };
+                period: task.period,
+            });
         }
         multiple = next as u32;
-        i += 1;
     }
-    // the jobs are counted here, where the tasks are copied already
-    let mut jobs: u32 = 0;
-    let mut j = 0;
-    while j < list.count {
-        let t = tasks[j];
-        jobs += multiple / t.period;
-        j += 1;
-    }
-    Multiple::Reached { multiple, jobs }
+    Ok(multiple)
 }
 
-fn broken(found: Finding) -> Bounds
-    ensures { result ≡ Bounds.Broken found.number found.task 0 0 }
+// The jobs of all tasks in so many slices.
+fn count_jobs(list: &TaskList, cycle: u32) -> u32
+    requires { AllFit list.now × (cycle ≤ 4096) }
+    ensures { result ≡ job_sum list.now.tasks cycle list.now.count }
 {
-    Bounds::Broken {
-        number: found.number,
-        task: found.task,
-        reached: 0,
-        period: 0,
+    let mut jobs = 0;
+    for task in &list.tasks[..list.count] {
+        jobs += cycle / task.period;
     }
+    jobs
 }
 
 // Refusals 1 to 6 and 20, or the cycle and the job count.
-pub fn check_bounds(list: TaskList, supply: u32) -> Bounds
+pub fn check_bounds(list: TaskList, supply: u32) -> Result<InBounds, Refusal>
     ensures { result ≡ bounds_of list supply }
 {
     if list.count == 0 {
-        return broken(Finding { number: 1, task: 0 });
+        return Err(Refusal::NoTasks);
     }
     if 16 < list.count {
-        return broken(Finding { number: 2, task: 0 });
+        return Err(Refusal::TooManyTasks);
     }
-    let fit = of_tasks(list, supply);
-    if fit.number != 0 {
-        return broken(fit);
-    }
-    match of_cycle(list) {
-        Multiple::Reached { multiple, jobs } => Bounds::Kept {
-            cycle: multiple,
-            jobs,
-        },
-        Multiple::GivenUp {
-            task,
-            reached,
-            period,
-        } => Bounds::Broken {
-            number: 6,
-            task,
-            reached,
-            period,
-        },
-    }
+    check_tasks(&list)?;
+    check_memory(&list, supply)?;
+    let cycle = cycle_of(&list)?;
+    let jobs = count_jobs(&list, cycle);
+    Ok(InBounds { cycle, jobs })
 }

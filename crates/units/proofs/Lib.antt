@@ -1,2 +1,3 @@
--- Laws of the conversions.
+-- Laws of the conversions, and the divisions of std.
 pub mod Laws
+pub mod Division

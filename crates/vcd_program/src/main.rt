@@ -5,9 +5,7 @@
 ghost use Rattle.std.specs.Prelude.{◌≤◌, length};
 ghost use Rattle.output.specs.Vcd.{VcdAnswers};
 
-use records::Form;
 use std::io;
-use verdict::Verdict;
 
 // What is to be printed for an input, and how long it is. There is room for the dump of every table.
 fn answer(input: &[u8], out: &mut [u8]) -> usize
@@ -18,21 +16,16 @@ fn answer(input: &[u8], out: &mut [u8]) -> usize
     if 4096 < input.len() {
         return printing::write_refusal(16, 0, 0, out);
     }
-    let parsed = records::read_list(input);
-    let form = parsed.form;
-    if let Form::Bad(line) = form {
-        return printing::write_refusal(15, line, 0, out);
-    }
-    let list = parsed.list;
+    let list = match records::read_list(input) {
+        Ok(list) => list,
+        Err(bad) => return printing::write_refusal(15, bad.line, 0, out),
+    };
     let mut table = [0u8; 4096];
     match lent::build_list(list, 65536, &mut table) {
-        Verdict::Refused {
-            number,
-            task,
-            margin,
-            ..
-        } => printing::write_refusal(number, task, margin, out),
-        Verdict::Accepted { cycle, .. } => dump::write(&table[..cycle as usize], out),
+        Ok(accepted) => dump::write(&table[..accepted.cycle as usize], out),
+        Err(refusal) => {
+            printing::write_refusal(refusal.number(), refusal.task(), refusal.margin(), out)
+        }
     }
 }
 

@@ -1,5 +1,5 @@
 -- The walk over a cycle of a list that keeps its bounds, event by event, and the verdict that it comes to, as laws over plain values.
-use Rattle.std.proofs.Common.{◌≡◌, ℕ, suc, ◌+◌, ◌-◌, ◌/◌, ◌<◌, ◌≤◌, List, length, replicate, ℤ, pos, sym, refl, ap, ◌∙◌, subst, ap₂, inl, inr, ⊎_elim, mul-le-mul_right, div-lt_iff_lt-mul, add-one, arith, eq-eqb, ne_eqb}
+use Rattle.std.proofs.Common.{◌≡◌, ℕ, suc, ◌+◌, ◌-◌, ◌/◌, ◌<◌, ◌≤◌, List, length, replicate, ℤ, pos, Ok, Err, sym, refl, ap, ◌∙◌, subst, ap₂, inl, inr, ⊎_elim, mul-le-mul_right, div-lt_iff_lt-mul, add-one, arith, eq-eqb, ne_eqb}
 use Prim.Native.Nat.{◌∣◌}
 use native.Mathlib.Nat.{div-mul_cancel}
 use lib.ListN.{length-replicate}
@@ -16,16 +16,16 @@ use Rattle.tasks.specs.List.{plan_of}
 use Rattle.tasks.specs.Bounds.{cycle_of}
 use Rattle.tasks.specs.Kept.{Bounded}
 use Rattle.tasks.proofs.Kept.{plan_monotonic, period_divides_cycle, period_within_cycle}
+use Rattle.ranking.specs.declared.Ranked.{Ranked}
 use Rattle.ranking.specs.Ranks.{Shows}
 use Rattle.verdict.specs.declared.Late.{Late}
-use Rattle.verdict.specs.declared.walk.Turned.{Turned}
 use Rattle.verdict.specs.Lateness.{lateness}
 use Rattle.verdict.specs.Deadlines.{late_stays, nothing_late, late_tells, missed_lacks, missing_is}
 use Rattle.verdict.specs.Ends.{end_by, end_none, end_is_first, end_within}
-use Rattle.verdict.specs.Shapes.{HandedOut, Fits, Tabled, missing_of, event_then, none_late, OneLate, AllTurned, TurnedAll, margin_at, TightestAt}
-use Rattle.verdict.specs.Walk.{Shown, Holds, Walked, entry_turn, none_late_then, one_late_then, holds_next}
+use Rattle.verdict.specs.Shapes.{HandedOut, Fits, Tabled, missing_of, event_then, none_late, OneLate, AllTurned, margin_at, TightestAt}
+use Rattle.verdict.specs.Walk.{Shown, Holds, Stopped, WalkedOut, entry_turn, none_late_then, one_late_then, holds_next}
 use lib.IntN.{sub_ℕ}
-use Rattle.verdict.specs.declared.Verdict.TheVariants.{Accepted, Refused}
+use Rattle.tasks.specs.declared.refusals.Refusal.TheVariants as refusal
 use Rattle.verdict.specs.Margin.{margin, tightest}
 use Rattle.verdict.specs.Verdict.{judged}
 use Rattle.verdict.specs.Tightest.{Tightest, tightest_law, tightest_only, not_tighter}
@@ -41,7 +41,19 @@ pub record At (P : Plan) (order : List ℕ) (room cycle t next : ℕ) (lacks' re
   pub next_within : t < cycle → next ≤ cycle
   pub entries_are : cycle ≤ room → Tabled (table P) t room table₁
 
-module _ (n cycle : ℕ) (order periods dues runtimes : List ℕ) (S : Shown n cycle order periods dues runtimes) where
+module _ (n cycle : ℕ) (ranked : Ranked) (S : Shown n cycle ranked) where
+  abbrev order : List ℕ
+  order = ranked.order
+
+  abbrev periods : List ℕ
+  periods = ranked.periods
+
+  abbrev dues : List ℕ
+  dues = ranked.dues
+
+  abbrev runtimes : List ℕ
+  runtimes = ranked.runtimes
+
   abbrev l : TaskList
   l = S.list
 
@@ -155,10 +167,8 @@ module _ (n cycle : ℕ) (order periods dues runtimes : List ℕ) (S : Shown n c
         let li = below k lk in
         let c = bounds.keeps.cycle_within in
         record {
-          event_some = omega (arith, so_far.quiet k lk, so_far.ahead);
           release_small = omega (arith, so_far.holds.release_is k lk, W.period_is k lk, release_age P sound i li t, period_small i li, C);
           due_small = omega (arith, W.due_is k lk, sound.due_within i li, period_small i li, so_far.next_within lt, C);
-          due_some = omega (arith, W.due_is k lk, sound.due_pos i li);
         }
 
     on_time_here : (lateness P t).task ≡ 0
@@ -175,23 +185,23 @@ module _ (n cycle : ℕ) (order periods dues runtimes : List ℕ) (S : Shown n c
     unfolding s
     as_many = omega (arith, so_far.ahead)
 
-    module _ (lacks₁ ends₁ table₂ : List ℕ) (handed₀ : HandedOut order dues lacks₀ ends table₁ n t next lacks₁ ends₁ table₂) (releases₂ events₂ lacks₂ : List ℕ) (r : Turned) where
+    module _ (lacks₁ ends₁ table₂ : List ℕ) (handed₀ : HandedOut order dues lacks₀ ends table₁ n t next lacks₁ ends₁ table₂) where
       handed : HandedOut order dues lacks₀ ends table₁ P.count t next lacks₁ ends₁ table₂
       handed = rw count_is at handed₀
 
       -- The first that is late ends the walk.
-      stopped : OneLate order (λ k. missing_of (at events k) (at lacks₁ k) next) n r.late → (r.late.task ≡ 0 → ⊥) → Walked P cycle order room ends₁ table₂ r.late
-      stopped L nz =
+      pub stops : (late : Late) → OneLate order (λ k. missing_of (at events k) (at lacks₁ k) next) n late → Stopped P cycle late
+      stops late L =
+          let nz : late.task ≡ 0 → ⊥ = λ z. omega (arith, L.first.is) in
           let e : next + (cycle - next) ≡ cycle = omega (arith, so_far.next_within lt) in
-          let so = one_late_then P sound order periods dues runtimes W t s lacks₀ releases events ends so_far.holds on_time_here next is_next so_far.quiet lacks₁ ends₁ (rw as_many at handed.lacks_are) (rw as_many at handed.ends_are) r.late (rw count_is at L) in
+          let so = one_late_then P sound order periods dues runtimes W t s lacks₀ releases events ends so_far.holds on_time_here next is_next so_far.quiet lacks₁ ends₁ (rw as_many at handed.lacks_are) (rw as_many at handed.ends_are) late (rw count_is at L) in
           record {
             late_is = so ∙ sym (late_stays P next (cycle - next) (λ z. nz (ap (λ (x : Late). x.task) so ∙ z))) ∙ ap (lateness P) e;
-            end_is = λ z. absurd (nz z);
-            entries_are = λ z. absurd (nz z);
+            some = nz;
           }
 
-      module _ (T₀ : AllTurned periods dues runtimes releases events lacks₁ n next releases₂ events₂ lacks₂ r) where
-        T : AllTurned periods dues runtimes releases events lacks₁ P.count next releases₂ events₂ lacks₂ r
+      module _ (releases₂ events₂ lacks₂ : List ℕ) (later : ℕ) (T₀ : AllTurned periods dues runtimes releases events lacks₁ n next releases₂ events₂ lacks₂ later) where
+        T : AllTurned periods dues runtimes releases events lacks₁ P.count next releases₂ events₂ lacks₂ later
         T = rw count_is at T₀
 
         then_holds : Holds P next order lacks₂ releases₂ events₂ ends₁
@@ -223,9 +233,9 @@ module _ (n cycle : ℕ) (order periods dues runtimes : List ℕ) (S : Shown n c
               blank = λ x l. w.elsewhere x (inr l) ∙ e.blank x (omega (arith, so_far.ahead));
             }
 
-        went_on : At P order room cycle next r.next lacks₂ releases₂ events₂ ends₁ table₂
+        pub goes_on : At P order room cycle next later lacks₂ releases₂ events₂ ends₁ table₂
         unfolding plan_of
-        went_on = record {
+        goes_on = record {
           holds = then_holds;
           on_time = none_late_then P sound order periods dues runtimes W t s lacks₀ releases events ends so_far.holds on_time_here next is_next so_far.quiet lacks₁ ends₁ (rw as_many at handed.lacks_are) (rw as_many at handed.ends_are) T.none_late_lem;
           ahead = T.next_is.greatest (suc next) (omega (arith, so_far.next_within lt, C, bounds.keeps.cycle_within)) (λ k lk. omega (arith, event_then_lem k lk, event_later P sound (at order k) (below k lk) next));
@@ -235,96 +245,90 @@ module _ (n cycle : ℕ) (order periods dues runtimes : List ℕ) (S : Shown n c
           entries_are = entries_then;
         }
 
-      pub stops : TurnedAll order periods dues runtimes releases events lacks₁ n next releases₂ events₂ lacks₂ r → (r.late.task ≡ 0 → ⊥) → Walked P cycle order room ends₁ table₂ r.late
-      stops (inl L) nz = stopped L nz
-      stops (inr T) nz = absurd (nz (ap (λ (x : Late). x.task) T.late_is))
-
-      pub goes_on : TurnedAll order periods dues runtimes releases events lacks₁ n next releases₂ events₂ lacks₂ r → r.late.task ≡ 0 → At P order room cycle next r.next lacks₂ releases₂ events₂ ends₁ table₂
-      goes_on (inl L) z = absurd (omega (arith, L.first.is))
-      goes_on (inr T) z = went_on T
-
   -- ---- at the cycle's end nothing was late
-  pub ends_well : (room t next : ℕ) (lacks₀ releases events ends table₁ : List ℕ) → At P order room cycle t next lacks₀ releases events ends table₁ → cycle ≤ t
-      → Walked P cycle order room ends table₁ (record { task = 0; short = 0 })
+  pub ends_well : (room t next : ℕ) (lacks₀ releases events ends table₁ : List ℕ) → At P order room cycle t next lacks₀ releases events ends table₁ → cycle ≤ t → WalkedOut P cycle order room ends table₁
   ends_well room t next lacks₀ releases events ends table₁ so_far q =
       let e : t ≡ cycle = omega (arith, so_far.within) in
       record {
-        late_is = so_far.on_time ∙ ap (lateness P) e;
-        end_is = λ _ k lk. so_far.holds.end_is k lk ∙ ap (λ (x : ℕ). end_by P x (at order k)) e;
-        entries_are = λ _ enough x l. (so_far.entries_are enough).written x (omega arith);
+        on_time = so_far.on_time ∙ ap (lateness P) e;
+        end_is = λ k lk. so_far.holds.end_is k lk ∙ ap (λ (x : ℕ). end_by P x (at order k)) e;
+        entries_are = λ enough x l. (so_far.entries_are enough).written x (omega arith);
       }
 
   -- ---- the verdict, by what the walk came to
-  module _ (ends : List ℕ) (room : ℕ) (table₁ : List ℕ) (late : Late) (L : Walked P cycle order room ends table₁ late) where
+  module _ (late : Late) (L : Stopped P cycle late) where
     task_is : late.task ≡ (lateness P cycle).task
     task_is = ap (λ (x : Late). x.task) L.late_is
 
-    pub short_within : (late.task ≡ 0 → ⊥) → late.short ≤ 4096
+    pub short_within : late.short ≤ 4096
     unfolding plan_of
-    short_within nz =
-        let task : (lateness P cycle).task ≡ suc (late.task - 1) = sym task_is ∙ omega arith in
+    short_within =
+        let task : (lateness P cycle).task ≡ suc (late.task - 1) = sym task_is ∙ omega (arith, L.some) in
         let m = late_tells P sound cycle (late.task - 1) task in
         let lacks = missed_lacks P m.slice (late.task - 1) m.missed in
         let fits = bounds.keeps.fits (late.task - 1) lacks.0 in
         omega (arith, ap (λ (x : Late). x.short) L.late_is, m.lacks, (missing_is P m.slice (late.task - 1) lacks.1).1, fits.runtime_to, fits.period_to)
 
-    pub concluded_late : (jobs : ℕ) (z : ℤ) → (late.task ≡ 0 → ⊥) → z ≡ sub_ℕ 0 late.short → Concluded l cycle jobs room table₁ (Refused 7 late.task z 0 0)
+    pub concluded_late : (room : ℕ) (table₁ : List ℕ) (jobs : ℕ) (z : ℤ) → z ≡ sub_ℕ 0 late.short → Concluded l cycle jobs room table₁ (Err (refusal.Late late.task z))
     unfolding judged
-    concluded_late jobs z nz q = record {
-      answer = rw (← L.late_is, q) (sym (choose_no _ _ _ (ne_eqb late.task 0 nz)));
-      entries = λ none. absurd (nz (task_is ∙ none));
+    concluded_late room table₁ jobs z q = record {
+      answer = rw (← L.late_is, q) (sym (choose_no _ _ _ (ne_eqb late.task 0 L.some)));
+      entries = λ none. absurd (L.some (task_is ∙ none));
     }
 
-    module _ (none : late.task ≡ 0) where
-      due_in_cycle : (i : ℕ) → i < P.count → P.due i ≤ cycle
-      unfolding plan_of
-      due_in_cycle i li = omega (arith, S.cycle_is, sound.due_within i li, period_within_cycle l bounds.supply bounds.keeps i li)
+  module _ (ends : List ℕ) (room : ℕ) (table₁ : List ℕ) (L : WalkedOut P cycle order room ends table₁) where
+    nothing : (lateness P cycle).task ≡ 0
+    nothing = sym (ap (λ (x : Late). x.task) L.on_time)
 
-      pub ends_by_dues : (k : ℕ) → k < n → at ends k ≤ at dues k
-      ends_by_dues k small = let lk : k < P.count = omega (arith, count_is) in omega (arith, L.end_is none k lk, end_within P (at order k) cycle, W.due_is k lk)
+    due_in_cycle : (i : ℕ) → i < P.count → P.due i ≤ cycle
+    unfolding plan_of
+    due_in_cycle i li = omega (arith, S.cycle_is, sound.due_within i li, period_within_cycle l bounds.supply bounds.keeps i li)
 
-      first_on_time : (i : ℕ) → i < P.count → OnTime P P.runtime i 0
-      unfolding OnTimeUpTo deadline release
-      first_on_time i li = (nothing_late P sound cycle).0 (sym task_is ∙ none) i 0 li (omega (arith, due_in_cycle i li))
+    pub ends_by_dues : (k : ℕ) → k < n → at ends k ≤ at dues k
+    ends_by_dues k small = let lk : k < P.count = omega (arith, count_is) in omega (arith, L.end_is k lk, end_within P (at order k) cycle, W.due_is k lk)
 
-      margin_is : (k : ℕ) → k < P.count → margin_at dues ends k ≡ margin P (at order k)
-      unfolding margin
-      margin_is k lk =
-          ap₂ (λ (x y : ℕ). x - y) (W.due_is k lk)
-          (L.end_is none k lk ∙ end_is_first P sound (at order k) cycle (below k lk) (first_on_time (at order k) (below k lk)) (due_in_cycle (at order k) (below k lk)))
+    first_on_time : (i : ℕ) → i < P.count → OnTime P P.runtime i 0
+    unfolding OnTimeUpTo deadline release
+    first_on_time i li = (nothing_late P sound cycle).0 nothing i 0 li (omega (arith, due_in_cycle i li))
 
-      module _ (best : ℕ) (found₀ : TightestAt (margin_at dues ends) n best) where
-        found : TightestAt (margin_at dues ends) P.count best
-        found = rw count_is at found₀
+    margin_is : (k : ℕ) → k < P.count → margin_at dues ends k ≡ margin P (at order k)
+    unfolding margin
+    margin_is k lk =
+        ap₂ (λ (x y : ℕ). x - y) (W.due_is k lk)
+        (L.end_is k lk ∙ end_is_first P sound (at order k) cycle (below k lk) (first_on_time (at order k) (below k lk)) (due_in_cycle (at order k) (below k lk)))
 
-        -- the first place with the smallest margin is the tightest task's
-        is_tightest : Tightest P P.count (at order best)
-        is_tightest = record {
-          is_below = below best found.below;
-          none_tighter = λ j lj.
-              let p = (W.ranked 0).places j lj in
-              let mine = margin_is best found.below in
-              let other : margin_at dues ends p.place ≡ margin P j = margin_is p.place p.below ∙ ap (margin P) p.is in
-              not_tighter P j (at order best) (omega (arith, found.smallest p.place p.below))
-              (λ same.
-              ⊎_elim
-              (λ (a : best ≤ p.place). rw (← p.is) (behind_not_before (key_in P 0) P.count order (W.ranked 0) best p.place a p.below))
-              (λ (b : p.place < best). absurd (omega (arith, found.first p.place b)))
-              (le_or_lt best p.place));
-        }
+    module _ (best : ℕ) (found₀ : TightestAt (margin_at dues ends) n best) where
+      found : TightestAt (margin_at dues ends) P.count best
+      found = rw count_is at found₀
 
-        best_is : at order best ≡ tightest P P.count
-        best_is = tightest_only P (at order best) (tightest P P.count) is_tightest (tightest_law P P.count some (omega arith))
+      -- the first place with the smallest margin is the tightest task's
+      is_tightest : Tightest P P.count (at order best)
+      is_tightest = record {
+        is_below = below best found.below;
+        none_tighter = λ j lj.
+            let p = (W.ranked 0).places j lj in
+            let mine = margin_is best found.below in
+            let other : margin_at dues ends p.place ≡ margin P j = margin_is p.place p.below ∙ ap (margin P) p.is in
+            not_tighter P j (at order best) (omega (arith, found.smallest p.place p.below))
+            (λ same.
+            ⊎_elim
+            (λ (a : best ≤ p.place). rw (← p.is) (behind_not_before (key_in P 0) P.count order (W.ranked 0) best p.place a p.below))
+            (λ (b : p.place < best). absurd (omega (arith, found.first p.place b)))
+            (le_or_lt best p.place));
+      }
 
-        pub margin_within : at dues best - at ends best ≤ 4096
-        margin_within = omega (arith, W.due_is best found.below, sound.due_within (at order best) (below best found.below), period_small (at order best) (below best found.below))
+      best_is : at order best ≡ tightest P P.count
+      best_is = tightest_only P (at order best) (tightest P P.count) is_tightest (tightest_law P P.count some (omega arith))
 
-        pub concluded_accepted : (jobs : ℕ) (z : ℤ) → z ≡ pos (at dues best - at ends best) → Concluded l cycle jobs room table₁ (Accepted cycle jobs (at order best + 1) z)
-        unfolding judged
-        concluded_accepted jobs z q = record {
-          answer =
-              rw (← L.late_is, add-one, q)
-              (ap₂ (λ (i m : ℕ). Accepted cycle jobs (suc i) (pos m)) best_is (margin_is best found.below ∙ ap (margin P) best_is)
-              ∙ sym (choose_yes _ _ _ (eq-eqb late.task 0 none)));
-          entries = λ _. L.entries_are none;
-        }
+      pub margin_within : at dues best - at ends best ≤ 4096
+      margin_within = omega (arith, W.due_is best found.below, sound.due_within (at order best) (below best found.below), period_small (at order best) (below best found.below))
+
+      pub concluded_accepted : (jobs : ℕ) (z : ℤ) → z ≡ pos (at dues best - at ends best) → Concluded l cycle jobs room table₁ (Ok (record { cycle = cycle; jobs = jobs; task = at order best + 1; margin = z }))
+      unfolding judged
+      concluded_accepted jobs z q = record {
+        answer =
+            rw (← L.on_time, add-one, q)
+            (ap₂ (λ (i m : ℕ). Ok (record { cycle = cycle; jobs = jobs; task = suc i; margin = pos m })) best_is (margin_is best found.below ∙ ap (margin P) best_is)
+            ∙ sym (choose_yes _ _ _ (eq-eqb none_late.task 0 refl)));
+        entries = λ _. L.entries_are;
+      }

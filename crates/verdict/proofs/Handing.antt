@@ -1,7 +1,10 @@
 -- Slices handed out, with their entries, as laws over plain values: the ways of a branch and the turns of a loop.
-use Rattle.std.proofs.Common.{◌≡◌, ℕ, suc, ◌+◌, ◌-◌, ◌<◌, ◌≤◌, min, Bool, false, ◌&&◌, ltb, ◌⊎◌, List, length, set, sym, refl, ap, ◌∙◌, ap₂, inl, inr, ⊎_elim, add-one, arith, length-set, get_or-set_other, get_or-set_same, le-ltb, lt-ltb}
+use Rattle.std.proofs.Common.{◌≡◌, ℕ, suc, ◌+◌, ◌-◌, ◌<◌, ◌≤◌, min, Bool, false, ◌&&◌, ltb, ◌⊎◌, List, length, set, sym, refl, ap, ◌∙◌, ap₂, inl, inr, ⊎_elim, add-one, arith, le-ltb, lt-ltb}
+use Rattle.std.specs.Prelude.{take, drop, ◌++◌}
+use Rattle.std.proofs.lemmas.List.{get_or_append_left, get_or-drop, get_or-take, length-append, length-drop, length-take}
+use Rattle.std.proofs.Math.Seq.{get_or-append_right}
 use Rattle.basis.specs.Bytes.{at, overwrite, overwrite_kept, overwrite_next, overwrite_rest, as_it_was}
-use Rattle.basis.specs.Choose.{choose, choose_yes, choose_no, le_or_lt, eq_or_ne, ltb_same, both_false}
+use Rattle.basis.specs.Choose.{choose, choose_yes, choose_no, le_or_lt, ltb_same, both_false}
 use Rattle.basis.specs.Sum.{sum, sum_grows}
 use Rattle.plan.specs.Events.{left, GoesTo}
 use Rattle.plan.proofs.Events.{to_come_left}
@@ -15,16 +18,37 @@ not_both a b x y f = choose_no (a && b) x y ((both_false a b).1 (λ _. f))
 pub filled_none : (table : List ℕ) (a entry : ℕ) → Filled table a a entry table
 filled_none table a entry = record { long = refl; filled = λ x l u. absurd (omega arith); elsewhere = λ x o. refl }
 
-pub filled_more : (table : List ℕ) (a b entry : ℕ) (table' : List ℕ) → Filled table a b entry table' → a ≤ b → b < length table → Filled table a (b + 1) entry (set table' b entry)
-filled_more table a b entry table' filled le l = record {
-  long = length-set table' b entry ∙ filled.long;
-  filled = λ x la lb.
-      ⊎_elim
-      (λ (e : x ≡ b). ap (at (set table' b entry)) e ∙ get_or-set_same table' b entry 0 (omega (arith, filled.long)))
-      (λ (ne : x ≡ b → ⊥). get_or-set_other table' b x entry 0 ne ∙ filled.filled x la (omega arith))
-      (eq_or_ne x b);
-  elsewhere = λ x o. get_or-set_other table' b x entry 0 (λ e. ⊎_elim (λ (u : x < a). omega arith) (λ (u : b + 1 ≤ x). omega arith) o) ∙ filled.elsewhere x (⊎_elim (λ (u : x < a). inl u) (λ (u : b + 1 ≤ x). inr (omega arith)) o);
-}
+pub turn_long : (table : List ℕ) (a b : ℕ) → b ≤ length table → length (take (b - a) (drop a table)) ≡ b - a
+turn_long table a b fits = omega (arith, length-take (b - a) (drop a table), length-drop a table)
+
+-- Of a turn whose slices all hold the entry.
+module _ (table : List ℕ) (a b entry : ℕ) (turn : List ℕ) (le : a ≤ b) (fits : b ≤ length table) (long : length turn ≡ b - a) (all : (k : ℕ) → k < b - a → at turn k ≡ entry) where
+  front : length (take a table) ≡ a
+  front = omega (arith, length-take a table)
+
+  abbrev rest : List ℕ
+  rest = turn ++ drop (b - a) (drop a table)
+
+  behind_front : (x : ℕ) → a ≤ x → at (take a table ++ rest) x ≡ at rest (x - a)
+  behind_front x l = get_or-append_right (take a table) rest x 0 (omega (arith, front)) ∙ ap (λ (j : ℕ). at rest (x - j)) front
+
+  behind_turn : (x : ℕ) → b ≤ x → at rest (x - a) ≡ at table x
+  behind_turn x l =
+      get_or-append_right turn (drop (b - a) (drop a table)) (x - a) 0 (omega (arith, long))
+      ∙ get_or-drop (b - a) (drop a table) (x - a - length turn) 0
+      ∙ get_or-drop a table (b - a + (x - a - length turn)) 0
+      ∙ ap (at table) (omega (arith, long))
+
+  pub filled_turn : Filled table a b entry (take a table ++ rest)
+  filled_turn = record {
+    long = omega (arith, length-append (take a table) rest, length-append turn (drop (b - a) (drop a table)), length-drop (b - a) (drop a table), length-drop a table, front, long);
+    filled = λ x la lb. behind_front x la ∙ get_or_append_left turn (drop (b - a) (drop a table)) 0 (x - a) (omega (arith, long)) ∙ all (x - a) (omega arith);
+    elsewhere = λ x o.
+        ⊎_elim
+        (λ (l : x < a). get_or_append_left (take a table) rest 0 x (omega (arith, front)) ∙ get_or-take a table x 0 l)
+        (λ (l : b ≤ x). behind_front x (omega arith) ∙ behind_turn x l)
+        o;
+  }
 
 -- ---- a turn
 module _ (order dues lacks ends table : List ℕ) (k t from next : ℕ) where

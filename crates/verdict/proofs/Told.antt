@@ -1,37 +1,36 @@
 -- What a verdict tells of the list: it is refused by its bounds, refused for lateness, or accepted with every job on time.
-use Rattle.std.specs.Prelude.{◌≡◌, ℕ, suc, ◌-◌, ◌⊎◌, ◌↔◌, ℤ, negsuc, ◌≢◌, refl}
+use Rattle.std.specs.Prelude.{◌≡◌, ℕ, suc, ◌-◌, ◌⊎◌, ◌↔◌, ℤ, negsuc, ◌≢◌, refl, Result, Ok, Err}
 use Rattle.std.proofs.Math.Path.{subst, sym, ap, ap₂}
 use Rattle.std.proofs.Common.{◌∙◌, inl, inr, arith, eq-eqb, ne_eqb}
 use Rattle.std.proofs.Math.Logic.{⊎_elim}
 use Rattle.std.proofs.Math.IntN.{sub_ℕ, pos-ne-negsuc}
 use Rattle.basis.specs.Choose.{choose_yes, choose_no, eq_or_ne}
+use Rattle.basis.specs.Answer.{Answer}
 use Rattle.basis.specs.Signed.{zero_less}
 use Rattle.plan.specs.Plan.{Sound, OnTimeUpTo}
 use Rattle.tasks.specs.declared.TaskList.{TaskList}
-use Rattle.tasks.specs.declared.Bounds.{Bounds}
-use Rattle.tasks.specs.declared.Bounds.TheVariants.{Kept, Broken}
+use Rattle.tasks.specs.declared.InBounds.{InBounds}
+use Rattle.tasks.specs.declared.refusals.Refusal.{Refusal}
+use Rattle.tasks.specs.declared.refusals.Refusal.TheVariants.{Late}
+use Rattle.tasks.specs.Refusal.{refusal_answer}
 use Rattle.tasks.specs.List.{plan_of}
 use Rattle.tasks.specs.Bounds.{bounds_of, bounds_answer, found, cycle_of, jobs_of}
 use Rattle.tasks.specs.Kept.{KeepsBounds}
-use Rattle.tasks.proofs.Kept.{bounds_kept, bounds_broken, bounds_found, kept_tells, broken_tells, broken_not_7, plan_monotonic}
-use Rattle.verdict.specs.declared.Verdict.{Verdict}
-use Rattle.verdict.specs.declared.Verdict.TheVariants.{Accepted, Refused}
+use Rattle.tasks.proofs.Kept.{bounds_kept, bounds_broken, bounds_found, kept_tells, found_most, broken_tells, broken_not_7, plan_monotonic}
+use Rattle.verdict.specs.declared.Accepted.{Accepted}
 use Rattle.verdict.specs.Lateness.{lateness}
-use Rattle.verdict.specs.Margin.{margin}
-use Rattle.verdict.specs.Verdict.{judged, verdict_from, verdict_of, verdict_answer}
+use Rattle.verdict.specs.Verdict.{Verdict, judged, verdict_from, verdict_of, verdict_answer}
 use Rattle.verdict.specs.Deadlines.{nothing_late, late_tells}
 use Rattle.verdict.specs.Answers.{ByBounds, ForLateness, OnTimeAll}
 
 module _ (l : TaskList) (supply : ℕ) where
-  by_bounds : (number task reached period : ℕ) → bounds_of l supply ≡ Broken number task reached period → ByBounds l supply (verdict_of l supply)
+  by_bounds : (r : Refusal) → bounds_of l supply ≡ Err r → ByBounds l supply (verdict_of l supply)
   unfolding verdict_of verdict_from
-  by_bounds number task reached period e = record {
-    number = number;
-    task = task;
-    reached = reached;
-    period = period;
+  by_bounds r e = record {
+    reason = r;
     broken = e;
-    not_7 = broken_not_7 l supply number task reached period e;
+    not_7 = broken_not_7 l supply r e;
+    margin_0 = ap (λ (a : Answer). a.margin) (broken_tells l supply r e).says ∙ (found_most l supply).margin_0;
     is = ap (verdict_from l) e;
   }
 
@@ -52,8 +51,8 @@ module _ (l : TaskList) (supply : ℕ) where
       earliest = rw short at (late_tells (plan_of l) plan_sound (cycle_of l) i task);
       is = kept_judged
           ∙ choose_no _ _ _ (ne_eqb (lateness (plan_of l) (cycle_of l)).task 0 (λ z. omega arith))
-          ∙ ap₂ (λ (t n : ℕ). Refused 7 t (sub_ℕ 0 n) 0 0) task short
-          ∙ ap (λ (m : ℤ). Refused 7 (suc i) m 0 0) (zero_less s);
+          ∙ ap₂ (λ (t n : ℕ). Err (Late t (sub_ℕ 0 n))) task short
+          ∙ ap (λ (m : ℤ). Err (Late (suc i) m)) (zero_less s);
     }
 
     late_refused : ((lateness (plan_of l) (cycle_of l)).task ≢ 0) → ForLateness l supply (verdict_of l supply)
@@ -74,31 +73,31 @@ module _ (l : TaskList) (supply : ℕ) where
   pub verdict_tells : ByBounds l supply (verdict_of l supply) ⊎ (ForLateness l supply (verdict_of l supply) ⊎ OnTimeAll l supply (verdict_of l supply))
   verdict_tells = go (bounds_of l supply) refl
     where
-      go : (b : Bounds) → bounds_of l supply ≡ b → ByBounds l supply (verdict_of l supply) ⊎ (ForLateness l supply (verdict_of l supply) ⊎ OnTimeAll l supply (verdict_of l supply))
-      go (Broken number task reached period) q = inl (by_bounds number task reached period q)
-      go (Kept c j) q =
-          let K = (kept_tells l supply c j q).keeps in
+      go : (b : Result InBounds Refusal) → bounds_of l supply ≡ b → ByBounds l supply (verdict_of l supply) ⊎ (ForLateness l supply (verdict_of l supply) ⊎ OnTimeAll l supply (verdict_of l supply))
+      go (Err r) q = inl (by_bounds r q)
+      go (Ok k) q =
+          let K = (kept_tells l supply k q).keeps in
           ⊎_elim
           (λ (z : (lateness (plan_of l) (cycle_of l)).task ≡ 0). inr (inr (on_time_accepted K ((nothing_late (plan_of l) (plan_sound K) (cycle_of l)).0 z))))
           (λ (nz : (lateness (plan_of l) (cycle_of l)).task ≡ 0 → ⊥). inr (inl (late_refused K nz)))
           (eq_or_ne (lateness (plan_of l) (cycle_of l)).task 0)
 
 -- ---- so an answer says which of the three it is
-other : {A : Type 0} {c j t n u r p : ℕ} {x y : ℤ} → Accepted c j t x ≡ Refused n u y r p → A
+other : {A : Type 0} {a : Accepted} {r : Refusal} → Ok a ≡ Err r → A
 other e = let z : ◌≡◌ {A = ℕ} 0 1 = cc in absurd (omega arith)
 
 module _ (l : TaskList) (supply : ℕ) where
   -- A broken bound is answered by what is found.
   pub verdict_found : ((found l supply).number ≢ 0) → verdict_answer (verdict_of l supply) ≡ found l supply
   unfolding verdict_answer verdict_of verdict_from bounds_answer
-  verdict_found nz = let e = bounds_broken l supply nz in ap (λ (b : Bounds). verdict_answer (verdict_from l b)) e ∙ sym (ap bounds_answer e) ∙ bounds_found l supply nz
+  verdict_found nz = let e = bounds_broken l supply nz in ap (λ (b : Result InBounds Refusal). verdict_answer (verdict_from l b)) e ∙ sym (ap bounds_answer e) ∙ bounds_found l supply nz
 
   -- The margin is below zero exactly if the list is refused for lateness.
   pub below_zero : ((verdict_answer (verdict_of l supply)).number ≡ 7) ↔ ((n : ℕ) × ((verdict_answer (verdict_of l supply)).margin ≡ negsuc n))
-  unfolding verdict_answer
+  unfolding verdict_answer refusal_answer
   below_zero =
       ⊎_elim
-      (λ (h : ByBounds l supply (verdict_of l supply)). rw h.is (λ z. absurd (h.not_7 z), λ n. absurd (pos-ne-negsuc _ _ n.1)))
+      (λ (h : ByBounds l supply (verdict_of l supply)). rw h.is (λ z. absurd (h.not_7 z), λ n. absurd (pos-ne-negsuc _ _ (sym h.margin_0 ∙ n.1))))
       (⊎_elim
       (λ (h : ForLateness l supply (verdict_of l supply)). rw h.is (λ z. (h.short, refl), λ n. refl))
       (λ (h : OnTimeAll l supply (verdict_of l supply)). rw h.is (λ z. absurd (omega arith), λ n. absurd (pos-ne-negsuc _ _ n.1))))
@@ -106,21 +105,21 @@ module _ (l : TaskList) (supply : ℕ) where
 
   -- A list is accepted only if it keeps all bounds and every job of the cycle is on time, and is never refused by number 0.
   pub accepted_as : (verdict_answer (verdict_of l supply)).number ≡ 0 → OnTimeAll l supply (verdict_of l supply)
-  unfolding verdict_answer
+  unfolding verdict_answer refusal_answer
   accepted_as z =
       ⊎_elim
       (λ (h : ByBounds l supply (verdict_of l supply)).
-      let T = broken_tells l supply h.number h.task h.reached h.period h.broken in
-      absurd (T.some (sym T.number_is ∙ sym (ap (λ (v : Verdict). (verdict_answer v).number) h.is) ∙ z)))
+      let T = broken_tells l supply h.reason h.broken in
+      absurd (T.some (sym (ap (λ (a : Answer). a.number) T.says) ∙ sym (ap (λ (v : Verdict). (verdict_answer v).number) h.is) ∙ z)))
       (⊎_elim
       (λ (h : ForLateness l supply (verdict_of l supply)). absurd (omega (arith, ap (λ (v : Verdict). (verdict_answer v).number) h.is)))
       (λ (h : OnTimeAll l supply (verdict_of l supply)). h))
       (verdict_tells l supply)
 
-  pub accepted_tells : (cycle jobs task : ℕ) (signed : ℤ) → verdict_of l supply ≡ Accepted cycle jobs task signed → OnTimeAll l supply (Accepted cycle jobs task signed)
+  pub accepted_tells : (a : Accepted) → verdict_of l supply ≡ Ok a → OnTimeAll l supply (Ok a)
   unfolding verdict_answer
-  accepted_tells cycle jobs task signed e = subst (OnTimeAll l supply) e (accepted_as (ap (λ (v : Verdict). (verdict_answer v).number) e))
+  accepted_tells a e = subst (OnTimeAll l supply) e (accepted_as (ap (λ (v : Verdict). (verdict_answer v).number) e))
 
-  pub refused_not_0 : (number task : ℕ) (margin : ℤ) (reached period : ℕ) → verdict_of l supply ≡ Refused number task margin reached period → number ≢ 0
+  pub refused_not_0 : (r : Refusal) → verdict_of l supply ≡ Err r → (refusal_answer r).number ≢ 0
   unfolding verdict_answer
-  refused_not_0 number task margin reached period e z = other (sym (accepted_as (ap (λ (v : Verdict). (verdict_answer v).number) e ∙ z)).is ∙ e)
+  refused_not_0 r e z = other (sym (accepted_as (ap (λ (v : Verdict). (verdict_answer v).number) e ∙ z)).is ∙ e)

@@ -1,58 +1,55 @@
 -- What an event brings to each task, as laws over plain values: the ways of a branch and the turns of a loop.
-use Rattle.std.proofs.Common.{◌≡◌, ℕ, ◌+◌, ◌<◌, ◌≤◌, min, List, set, sym, refl, ap, ◌∙◌, ap₂, inl, inr, ⊎_elim, add-one, arith, eq-eqb, ne_eqb}
+use Rattle.std.proofs.Common.{◌≡◌, ℕ, ◌+◌, ◌<◌, ◌≤◌, min, List, set, sym, refl, ap, ◌∙◌, ap₂, ⊎_elim, add-one, arith, eq-eqb, ne_eqb}
 use Rattle.basis.specs.Bytes.{at, overwrite, overwrite_kept, overwrite_next, as_it_was}
 use Rattle.basis.specs.Choose.{choose_yes, choose_no, below_suc}
-use Rattle.verdict.specs.Shapes.{Fits, missing_of, event_then, release_then, lack_then, Passes, TurnedOne, none_late, Earliest, TurnedAll}
+use Rattle.verdict.specs.Shapes.{Fits, missing_of, event_then, release_then, lack_then, Misses, Passes, Earliest, OneLate, AllTurned}
 use Rattle.verdict.specs.Walk.{turned_stays, turned_waits, turned_begins}
 
 -- ---- an event
 module _ (periods dues runtimes releases events lacks : List ℕ) (t k : ℕ) where
-  abbrev TurnedTo : List ℕ → List ℕ → List ℕ → ℕ → Type 0
-  TurnedTo = TurnedOne periods dues runtimes releases events lacks t k
+  abbrev PassesTo : List ℕ → List ℕ → List ℕ → ℕ → Type 0
+  PassesTo = Passes periods dues runtimes releases events lacks t k
 
   abbrev release : ℕ
   release = at releases k + at periods k
 
-  pub not_yet : (at events k ≡ t → ⊥) → 0 < at events k → TurnedTo releases events lacks (at events k)
+  pub not_yet : (at events k ≡ t → ⊥) → PassesTo releases events lacks (at events k)
   unfolding missing_of event_then release_then lack_then
-  not_yet ne p = inr (record {
-    some = p;
+  not_yet ne = record {
     none = choose_no _ _ _ (ne_eqb (at events k) t ne);
     event_is = sym (turned_stays release (at events k) t _ _ _ ne);
     events_are = as_it_was events k _ (turned_stays release (at events k) t _ _ _ ne);
     releases_are = as_it_was releases k _ (turned_stays release (at events k) t _ _ _ ne);
     lacks_are = as_it_was lacks k _ (turned_stays release (at events k) t _ _ _ ne);
-  })
+  }
 
   module _ (here : at events k ≡ t) where
     missing_here : missing_of (at events k) (at lacks k) t ≡ at lacks k
     unfolding missing_of
     missing_here = choose_yes _ _ _ (eq-eqb (at events k) t here)
 
-    pub missed : (at lacks k ≡ 0 → ⊥) → TurnedTo releases events lacks 0
-    missed nz = inl (record { event_is = refl; wanting = omega (arith, missing_here); short_is = sym missing_here })
+    pub missed : (at lacks k ≡ 0 → ⊥) → Misses periods dues runtimes releases events lacks t k lacks
+    missed nz = record { wanting = omega (arith, missing_here); short_is = sym missing_here }
 
-    pub shut : at lacks k ≡ 0 → t < release → TurnedTo releases (set events k release) lacks release
+    pub shut : at lacks k ≡ 0 → t < release → PassesTo releases (set events k release) lacks release
     unfolding event_then release_then lack_then
-    shut none l = inr (record {
-      some = omega arith;
+    shut none l = record {
       none = missing_here ∙ none;
       event_is = sym (turned_waits release (at events k) t _ _ _ here l);
       events_are = ap (set events k) (sym (turned_waits release (at events k) t _ _ _ here l));
       releases_are = as_it_was releases k _ (turned_waits release (at events k) t _ _ _ here l);
       lacks_are = as_it_was lacks k _ (turned_waits release (at events k) t _ _ _ here l);
-    })
+    }
 
-    pub released : at lacks k ≡ 0 → release ≤ t → 0 < t → TurnedTo (set releases k t) (set events k (t + at dues k)) (set lacks k (at runtimes k)) (t + at dues k)
+    pub released : at lacks k ≡ 0 → release ≤ t → PassesTo (set releases k t) (set events k (t + at dues k)) (set lacks k (at runtimes k)) (t + at dues k)
     unfolding event_then release_then lack_then
-    released none l p = inr (record {
-      some = omega arith;
+    released none l = record {
       none = missing_here ∙ none;
       event_is = sym (turned_begins release (at events k) t _ _ _ here l);
       events_are = ap (set events k) (sym (turned_begins release (at events k) t _ _ _ here l));
       releases_are = ap (set releases k) (sym (turned_begins release (at events k) t _ _ _ here l));
       lacks_are = ap (set lacks k) (sym (turned_begins release (at events k) t _ _ _ here l));
-    })
+    }
 
 -- ---- the event of each task in turn
 module _ (order periods dues runtimes releases events lacks : List ℕ) (n t : ℕ) where
@@ -99,13 +96,20 @@ module _ (order periods dues runtimes releases events lacks : List ℕ) (n t : �
     pub still_fits : Fits (at periods k) (at dues k) (at releases k) (at events k) t → Fits (at periods k) (at dues k) (at releases₁ k) (at events₁ k) t
     still_fits fits = rw (event_same, release_same) fits
 
-    module _ (releases₂ events₂ lacks₂ : List ℕ) (event : ℕ) where
-      missing_same : missing_of (at events₁ k) (at lacks₁ k) t ≡ missing k
-      missing_same = ap₂ (λ (e l : ℕ). missing_of e l t) event_same lack_same
+    missing_same : missing_of (at events₁ k) (at lacks₁ k) t ≡ missing k
+    missing_same = ap₂ (λ (e l : ℕ). missing_of e l t) event_same lack_same
 
-      passed : (next' : ℕ) → next' ≡ min next event → Passes periods dues runtimes releases₁ events₁ lacks₁ t k releases₂ events₂ lacks₂ event → Turning (k + 1) next' releases₂ events₂ lacks₂
+    -- The first that is late ends the search.
+    pub late_found : (lacks₂ : List ℕ) → Misses periods dues runtimes releases₁ events₁ lacks₁ t k lacks₂ → k < n → OneLate order missing n (record { task = at order k + 1; short = at lacks₂ k })
+    late_found lacks₂ T l = record {
+      first = record { place = k; below = l; is = add-one (at order k); wanting = omega (arith, T.wanting, missing_same); none_before = H.none_late_lem };
+      short_is = T.short_is ∙ missing_same;
+    }
+
+    module _ (releases₂ events₂ lacks₂ : List ℕ) (event : ℕ) where
+      pub turning_more : (next' : ℕ) → next' ≡ min next event → Passes periods dues runtimes releases₁ events₁ lacks₁ t k releases₂ events₂ lacks₂ event → Turning (k + 1) next' releases₂ events₂ lacks₂
       unfolding event_then release_then lack_then
-      passed next' e T = record {
+      turning_more next' e T = record {
         events_are = T.events_are ∙ overwrite_next event_of events k events₁ _ H.events_are (rw (event_same, release_same));
         releases_are = T.releases_are ∙ overwrite_next release_of releases k releases₁ _ H.releases_are (rw (event_same, release_same));
         lacks_are = T.lacks_are ∙ overwrite_next lack_of lacks k lacks₁ _ H.lacks_are (rw (event_same, release_same, lack_same));
@@ -119,26 +123,12 @@ module _ (order periods dues runtimes releases events lacks : List ℕ) (n t : �
           here : event ≡ event_of k
           here = T.event_is ∙ rw (event_same, release_same)
 
-      pub turning_more : TurnedOne periods dues runtimes releases₁ events₁ lacks₁ t k releases₂ events₂ lacks₂ event → (next' : ℕ) → (event ≡ 0 → ⊥) → next' ≡ min next event → Turning (k + 1) next' releases₂ events₂ lacks₂
-      turning_more (inl T) next' some e = absurd (some T.event_is)
-      turning_more (inr T) next' some e = passed next' e T
-
-      -- The first that is late ends the search.
-      pub late_found : TurnedOne periods dues runtimes releases₁ events₁ lacks₁ t k releases₂ events₂ lacks₂ event → k < n → event ≡ 0
-          → TurnedAll order periods dues runtimes releases events lacks n t releases₂ events₂ lacks₂ (record { late = record { task = at order k + 1; short = at lacks₂ k }; next = next })
-      late_found (inr T) l z = absurd (omega (arith, T.some))
-      late_found (inl T) l z = inl (record {
-        first = record { place = k; below = l; is = add-one (at order k); wanting = omega (arith, T.wanting, missing_same); none_before = H.none_late_lem };
-        short_is = T.short_is ∙ missing_same;
-      })
-
   pub turning_all : (k next : ℕ) (releases₁ events₁ lacks₁ : List ℕ) → k ≡ n → Turning k next releases₁ events₁ lacks₁
-      → TurnedAll order periods dues runtimes releases events lacks n t releases₁ events₁ lacks₁ (record { late = none_late; next = next })
-  turning_all k next releases₁ events₁ lacks₁ e H = inr (record {
-    late_is = refl;
+      → AllTurned periods dues runtimes releases events lacks n t releases₁ events₁ lacks₁ next
+  turning_all k next releases₁ events₁ lacks₁ e H = record {
     none_late_lem = rw e at H.none_late_lem;
     events_are = rw e at H.events_are;
     releases_are = rw e at H.releases_are;
     lacks_are = rw e at H.lacks_are;
     next_is = rw e at H.next_is;
-  })
+  }

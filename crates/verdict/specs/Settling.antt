@@ -4,9 +4,8 @@ use Rattle.basis.specs.Bytes.{at}
 use Rattle.plan.specs.Plan.{table}
 use Rattle.tasks.specs.declared.TaskList.{TaskList}
 use Rattle.tasks.specs.List.{plan_of}
-use Rattle.verdict.specs.declared.Verdict.{Verdict}
 use Rattle.verdict.specs.Lateness.{lateness}
-use Rattle.verdict.specs.Verdict.{judged}
+use Rattle.verdict.specs.Verdict.{Verdict, judged}
 use Rattle.verdict.specs.Table.{fitted, tabled}
 
 -- The verdict of a list that keeps its bounds. Where nothing is late, the entries are the table's, if there are enough of them.

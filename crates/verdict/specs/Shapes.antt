@@ -1,13 +1,13 @@
 -- Shaped like the code, for private contracts alone: what the loops over arrays of numbers come to. Place k of an array belongs to
 -- the k-th task by rank. Walk ties them to the plan.
-use Rattle.std.specs.Prelude.{◌≡◌, ℕ, suc, ◌+◌, ◌-◌, ◌<◌, ◌≤◌, min, ◌&&◌, ◌⊎◌, List, length, ◌==◌, nat_lt, slice_set}
+use Rattle.std.specs.Prelude.{◌≡◌, ℕ, suc, ◌+◌, ◌-◌, ◌<◌, ◌≤◌, min, ◌&&◌, ◌⊎◌, List, length, ◌==◌, nat_lt, slice_set, Option, Result, MatchOption, MatchResult}
 use Rattle.basis.specs.Bytes.{at, overwrite}
 use Rattle.basis.specs.Choose.{choose}
 use Rattle.basis.specs.Sum.{sum}
 use Rattle.plan.specs.Order.{FirstPlace}
 use Rattle.plan.specs.Events.{left, GoesTo}
 use Rattle.verdict.specs.declared.Late.{Late}
-use Rattle.verdict.specs.declared.walk.Turned.{Turned}
+use Rattle.verdict.specs.declared.walk.Jobs.{Jobs}
 
 -- ---- entries
 -- Bytes from a to b, b not included, hold one entry, and the others are as they were.
@@ -37,6 +37,10 @@ pub record HandedOne (order dues lacks ends table : List ℕ) (k t from next : �
   pub ends_are : ends' ≡ slice_set ends k (choose (nat_lt t (at dues k) && nat_lt from r) r (at ends k))
   pub writes : next ≤ length table → Filled table from r (at order k + 1) table'
 
+-- When a job was released, and its next event, stay as slices are handed out.
+abbrev pub SameEvents : Jobs → Jobs → Type 0
+SameEvents jobs jobs' = (jobs'.releases ≡ jobs.releases) × (jobs'.events ≡ jobs.events)
+
 -- ---- m slices handed out from slice t on
 -- The turn of the task at place k ends after so many of them.
 unfoldable pub until : (ℕ → ℕ) → ℕ → ℕ → ℕ
@@ -55,10 +59,8 @@ pub record HandedOut (order dues lacks ends table : List ℕ) (n t next : ℕ) (
 -- ---- what happens at slice t to a task with its next event at `event`
 -- its numbers are small
 pub record Fits (period due release event t : ℕ) : Type 0 where
-  pub event_some : 0 < event
   pub release_small : release + period ≤ 8192
   pub due_small : t + due ≤ 8192
-  pub due_some : 0 < due
 
 -- what its job misses, if the event is there
 unfoldable pub missing_of : ℕ → ℕ → ℕ → ℕ
@@ -79,23 +81,21 @@ module _ (periods dues runtimes releases events lacks : List ℕ) (t k : ℕ) wh
   unfoldable pub lack_then : ℕ
   lack_then = turned (at releases k + at periods k) (at events k) t (at lacks k) (at lacks k) (at runtimes k)
 
-  -- It misses its deadline, and the answer is 0;
-  pub record Misses (lacks' : List ℕ) (event : ℕ) : Type 0 where
-    pub event_is : event ≡ 0
+  -- It misses its deadline;
+  pub record Misses (lacks' : List ℕ) : Type 0 where
     pub wanting : 0 < missing_of (at events k) (at lacks k) t
     pub short_is : at lacks' k ≡ missing_of (at events k) (at lacks k) t
 
   -- or it does not, and the answer is its next event.
   pub record Passes (releases' events' lacks' : List ℕ) (event : ℕ) : Type 0 where
-    pub some : 0 < event
     pub none : missing_of (at events k) (at lacks k) t ≡ 0
     pub event_is : event ≡ event_then
     pub events_are : events' ≡ slice_set events k event_then
     pub releases_are : releases' ≡ slice_set releases k release_then
     pub lacks_are : lacks' ≡ slice_set lacks k lack_then
 
-  abbrev pub TurnedOne : List ℕ → List ℕ → List ℕ → ℕ → Type 0
-  TurnedOne releases' events' lacks' event = Misses lacks' event ⊎ Passes releases' events' lacks' event
+  abbrev pub TurnedOne : List ℕ → List ℕ → List ℕ → Option ℕ → Type 0
+  TurnedOne releases' events' lacks' r = MatchOption r (Misses lacks') (Passes releases' events' lacks')
 
 -- ---- all tasks at slice t
 abbrev pub none_late : Late
@@ -112,16 +112,16 @@ pub record OneLate (order : List ℕ) (missing : ℕ → ℕ) (n : ℕ) (late : 
   pub short_is : late.short ≡ missing first.place
 
 -- or none misses it, and all have turned.
-pub record AllTurned (periods dues runtimes releases events lacks : List ℕ) (n t : ℕ) (releases' events' lacks' : List ℕ) (r : Turned) : Type 0 where
-  pub late_is : r.late ≡ none_late
+pub record AllTurned (periods dues runtimes releases events lacks : List ℕ) (n t : ℕ) (releases' events' lacks' : List ℕ) (next : ℕ) : Type 0 where
   pub none_late_lem : (k : ℕ) → k < n → missing_of (at events k) (at lacks k) t ≡ 0
   pub events_are : events' ≡ overwrite (event_then periods dues runtimes releases events lacks t) n events
   pub releases_are : releases' ≡ overwrite (release_then periods dues runtimes releases events lacks t) n releases
   pub lacks_are : lacks' ≡ overwrite (lack_then periods dues runtimes releases events lacks t) n lacks
-  pub next_is : Earliest (event_then periods dues runtimes releases events lacks t) n r.next
+  pub next_is : Earliest (event_then periods dues runtimes releases events lacks t) n next
 
-abbrev pub TurnedAll : (order periods dues runtimes releases events lacks : List ℕ) (n t : ℕ) (releases' events' lacks' : List ℕ) → Turned → Type 0
-TurnedAll order periods dues runtimes releases events lacks n t releases' events' lacks' r = OneLate order (λ k. missing_of (at events k) (at lacks k) t) n r.late ⊎ AllTurned periods dues runtimes releases events lacks n t releases' events' lacks' r
+abbrev pub TurnedAll : (order periods dues runtimes releases events lacks : List ℕ) (n t : ℕ) (releases' events' lacks' : List ℕ) → Result ℕ Late → Type 0
+TurnedAll order periods dues runtimes releases events lacks n t releases' events' lacks' r =
+    MatchResult r (AllTurned periods dues runtimes releases events lacks n t releases' events' lacks') (OneLate order (λ k. missing_of (at events k) (at lacks k) t) n)
 
 -- ---- the tightest task
 abbrev pub margin_at : List ℕ → List ℕ → ℕ → ℕ

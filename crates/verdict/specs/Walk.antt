@@ -1,5 +1,5 @@
 -- The walk from event to event over arrays of numbers is the slice rule of the plan that they show.
-use Rattle.std.specs.Prelude.{◌≡◌, ℕ, suc, ◌+◌, ◌-◌, ◌*◌, ◌<◌, ◌≤◌, Bool, ◌&&◌, ◌⊎◌, List, length, ◌≢◌, nat_lt, refl}
+use Rattle.std.specs.Prelude.{◌≡◌, ℕ, suc, ◌+◌, ◌-◌, ◌*◌, ◌<◌, ◌≤◌, Bool, ◌&&◌, ◌⊎◌, List, length, ◌≢◌, nat_lt, refl, Result, MatchResult}
 use Rattle.std.proofs.Math.Path.{sym, ap}
 use Rattle.std.proofs.Common.{◌∙◌, lt-ltb, le-ltb, eq-eqb, ne_eqb}
 use Rattle.std.proofs.Math.Logic.{inl, inr, ⊎_elim}
@@ -19,6 +19,7 @@ use Rattle.tasks.specs.declared.TaskList.{TaskList}
 use Rattle.tasks.specs.List.{plan_of}
 use Rattle.tasks.specs.Bounds.{cycle_of}
 use Rattle.tasks.specs.Kept.{Bounded}
+use Rattle.ranking.specs.declared.Ranked.{Ranked}
 use Rattle.ranking.specs.Ranks.{Shows}
 use Rattle.verdict.specs.declared.Late.{Late}
 use Rattle.verdict.specs.Lateness.{received, missing, missed_at, late_by, lateness}
@@ -28,12 +29,12 @@ use Rattle.verdict.specs.Shapes.{until, end_after, missing_of, turned, event_the
 
 -- ---- the arrays
 -- They show a list of n tasks that keeps its bounds, with its cycle.
-pub record Shown (n cycle : ℕ) (order periods dues runtimes : List ℕ) : Type 0 where
+pub record Shown (n cycle : ℕ) (ranked : Ranked) : Type 0 where
   pub list : TaskList
   pub bounded : Bounded list
   pub count_is : n ≡ list.count
   pub cycle_is : cycle ≡ cycle_of list
-  pub shows : Shows (plan_of list) order periods dues runtimes
+  pub shows : Shows (plan_of list) ranked.order ranked.periods ranked.dues ranked.runtimes
 
 -- Before slice t they hold what each task lacks, when its current job was released, its next event and the end of its first job.
 pub record Holds (P : Plan) (t : ℕ) (order lacks' releases events ends : List ℕ) : Type 0 where
@@ -265,8 +266,16 @@ module _ (P : Plan) (S : Sound P) (order periods dues runtimes : List ℕ) (W : 
           lacks₁-room = omega (arith, ap length (lacks_are), overwrite-length (λ k. left (at lacks₀) k (suc s)) lacks₀ n, H.lacks_room)
 
 -- ---- the whole cycle
--- The first missed deadline; if there is none, the ends of the first jobs, and the entries where there is room for all.
-pub record Walked (P : Plan) (cycle : ℕ) (order : List ℕ) (room : ℕ) (ends table₁ : List ℕ) (late : Late) : Type 0 where
+-- The first missed deadline;
+pub record Stopped (P : Plan) (cycle : ℕ) (late : Late) : Type 0 where
   pub late_is : late ≡ lateness P cycle
-  pub end_is : late.task ≡ 0 → (k : ℕ) → k < P.count → at ends k ≡ end_by P cycle (at order k)
-  pub entries_are : late.task ≡ 0 → cycle ≤ room → (x : ℕ) → x < cycle → at table₁ x ≡ table P x
+  pub some : late.task ≢ 0
+
+-- or there is none: the ends of the first jobs, and the entries where there is room for all.
+pub record WalkedOut (P : Plan) (cycle : ℕ) (order : List ℕ) (room : ℕ) (ends table₁ : List ℕ) : Type 0 where
+  pub on_time : none_late ≡ lateness P cycle
+  pub end_is : (k : ℕ) → k < P.count → at ends k ≡ end_by P cycle (at order k)
+  pub entries_are : cycle ≤ room → (x : ℕ) → x < cycle → at table₁ x ≡ table P x
+
+abbrev pub Walked : (P : Plan) (cycle : ℕ) (order : List ℕ) (room : ℕ) (table₁ : List ℕ) → Result (List ℕ) Late → Type 0
+Walked P cycle order room table₁ r = MatchResult r (λ ends. WalkedOut P cycle order room ends table₁) (Stopped P cycle)

@@ -1,28 +1,13 @@
 // The slice rule over a cycle. It walks from event to event, an event being a release or a deadline: in between nothing changes
 // but that the open jobs run in the order of their ranks, one after the other. Place k of each array is the k-th task's by rank.
-ghost use Rattle.std.specs.Prelude.{◌≡◌, ℕ, ◌-◌, ◌<◌, ◌≤◌, min, length, replicate, slice_set};
+ghost use Rattle.std.specs.Prelude.{◌≡◌, ℕ, ◌-◌, ◌<◌, ◌≤◌, length};
 ghost use Rattle.basis.specs.Bytes.{at};
 ghost use Rattle.tasks.specs.List.{plan_of};
-ghost use Rattle.verdict.specs.Shapes.{Fits, HandedOne, HandedOut, Filled, TurnedOne, TurnedAll, margin_at, Tighter, TightestAt};
+ghost use Rattle.verdict.specs.Shapes.{Fits, HandedOne, HandedOut, Filled, TurnedOne, TurnedAll, margin_at, Tighter, TightestAt, SameEvents};
 ghost use Rattle.verdict.specs.Walk.{Shown, Walked};
 
 use crate::Late;
-
-fn lesser(a: u32, b: u32) -> u32
-    ensures { result ≡ min a b }
-{
-    if a < b { a } else { b }
-}
-
-// Written only where it differs: a turn is mostly short, and as plain stores the loop over it would become a call.
-fn put(entries: &mut [u8], s: usize, entry: u8)
-    requires { s < length entries.old }
-    ensures { entries.new ≡ slice_set entries.old s entry }
-{
-    if entries[s] != entry {
-        entries[s] = entry;
-    }
-}
+use ranking::Ranked;
 
 // Writes one entry for the slices of a turn, if there are entries up to its end.
 fn fill(entries: &mut [u8], from: u32, to: u32, entry: usize)
@@ -34,187 +19,139 @@ fn fill(entries: &mut [u8], from: u32, to: u32, entry: usize)
         return;
     }
     let byte = entry as u8;
-    let mut s = from as usize;
-    while s < end {
-        put(entries, s, byte);
-        s += 1;
-    }
-}
-
-// The turn of the task at place k begins at a slice and ends where it has what it lacks, at the next event at the latest: the
-// answer. In its first job that is the end of the job so far.
-fn hand_one(
-    order: &[usize; 16],
-    dues: &[u32; 16],
-    lacks: &mut [u32; 16],
-    ends: &mut [u32; 16],
-    entries: &mut [u8],
-    k: usize,
-    t: u32,
-    from: u32,
-    next: u32,
-) -> u32
-    requires { (k < 16) × (from < next) × (at order.now k < 16) }
-    ensures { HandedOne order.now dues.now lacks.old ends.old entries.old k t from next lacks.new ends.new entries.new result }
-{
-    let lack = lacks[k];
-    if lack == 0 {
-        return from;
-    }
-    let take = lesser(lack, next - from);
-    let to = from + take;
-    lacks[k] = lack - take;
-    fill(entries, from, to, order[k] + 1);
-    if dues[k] <= t {
-        return to;
-    }
-    ends[k] = to;
-    to
-}
-
-// Hands out the slices from slice t to the next event: each task in turn takes what it lacks.
-fn hand_out(
-    order: &[usize; 16],
-    dues: &[u32; 16],
-    lacks: &mut [u32; 16],
-    ends: &mut [u32; 16],
-    entries: &mut [u8],
-    count: usize,
-    t: u32,
-    next: u32,
-)
-    requires { (count ≤ 16) × (t < next) × ((k : ℕ) → k < count → at order.now k < 16) }
-    ensures { HandedOut order.now dues.now lacks.old ends.old entries.old count t next lacks.new ends.new entries.new }
-{
-    let mut from = t;
-    let mut k = 0;
-    while k < count {
-        let to = hand_one(order, dues, lacks, ends, entries, k, t, from, next);
-        if to == next {
-            return;
+    let turn = &mut entries[from as usize..end];
+    for held in turn.iter_mut() {
+        // a turn is mostly short, and as plain stores the loop would become a call
+        if *held != byte {
+            *held = byte;
         }
-        from = to;
-        k += 1;
     }
 }
 
-// What slice t brings to the task at place k. The answer is its next event, or 0 if it misses its deadline there.
-fn turn_one(
-    periods: &[u32; 16],
-    dues: &[u32; 16],
-    runtimes: &[u32; 16],
-    releases: &mut [u32; 16],
-    events: &mut [u32; 16],
-    lacks: &mut [u32; 16],
-    k: usize,
-    t: u32,
-) -> u32
-    requires { (k < 16) × (0 < t) × Fits (at periods.now k) (at dues.now k) (at releases.old k) (at events.old k) t }
-    ensures { TurnedOne periods.now dues.now runtimes.now releases.old events.old lacks.old t k releases.new events.new lacks.new result }
-{
-    let event = events[k];
-    if event != t {
-        return event;
-    }
-    if lacks[k] != 0 {
-        return 0;
-    }
-    let release = releases[k] + periods[k];
-    if t < release {
-        events[k] = release;
-        return release;
-    }
-    let due = t + dues[k];
-    releases[k] = t;
-    events[k] = due;
-    lacks[k] = runtimes[k];
-    due
-}
-
-// The first task by rank that misses its deadline at slice t; if none does, the next event of all.
+// How the tasks by rank stand before a slice: what each lacks, when its current job was released, its next event, and the end of
+// its first job so far.
 #[derive(Clone, Copy)]
-struct Turned {
-    late: Late,
-    next: u32,
+struct Jobs {
+    lacks: [u32; 16],
+    releases: [u32; 16],
+    events: [u32; 16],
+    ends: [u32; 16],
 }
 
-fn turn(
-    order: &[usize; 16],
-    periods: &[u32; 16],
-    dues: &[u32; 16],
-    runtimes: &[u32; 16],
-    releases: &mut [u32; 16],
-    events: &mut [u32; 16],
-    lacks: &mut [u32; 16],
-    count: usize,
-    t: u32,
-) -> Turned
-    requires { (count ≤ 16) × (0 < t) × ((k : ℕ) → k < count → at order.now k < 16) × ((k : ℕ) → k < count → Fits (at periods.now k) (at dues.now k) (at releases.old k) (at events.old k) t) }
-    ensures { TurnedAll order.now periods.now dues.now runtimes.now releases.old events.old lacks.old count t releases.new events.new lacks.new result }
-{
-    let mut next: u32 = 8192;
-    let mut k = 0;
-    while k < count {
-        let event = turn_one(periods, dues, runtimes, releases, events, lacks, k, t);
-        if event == 0 {
-            return Turned {
-                late: Late {
-                    task: order[k] + 1,
-                    short: lacks[k],
-                },
-                next,
-            };
+impl Jobs {
+    // The turn of the task at place k begins at a slice and ends where it has what it lacks, at the next event at the latest: the
+    // answer. In its first job that is the end of the job so far.
+    fn hand_one(
+        &mut self,
+        ranked: &Ranked,
+        entries: &mut [u8],
+        k: usize,
+        t: u32,
+        from: u32,
+        next: u32,
+    ) -> u32
+        requires { (k < 16) × (from < next) × (at ranked.now.order k < 16) }
+        ensures { HandedOne ranked.now.order ranked.now.dues self.old.lacks self.old.ends entries.old k t from next self.new.lacks self.new.ends entries.new result × SameEvents self.old self.new }
+    {
+        let lack = self.lacks[k];
+        if lack == 0 {
+            return from;
         }
-        next = lesser(next, event);
-        k += 1;
+        let take = lack.min(next - from);
+        let to = from + take;
+        self.lacks[k] = lack - take;
+        fill(entries, from, to, ranked.order[k] + 1);
+        if ranked.dues[k] <= t {
+            return to;
+        }
+        self.ends[k] = to;
+        to
     }
-    Turned {
-        late: Late { task: 0, short: 0 },
-        next,
+
+    // Hands out the slices from slice t to the next event: each task in turn takes what it lacks.
+    fn hand_out(&mut self, ranked: &Ranked, entries: &mut [u8], count: usize, t: u32, next: u32)
+        requires { (count ≤ 16) × (t < next) × ((k : ℕ) → k < count → at ranked.now.order k < 16) }
+        ensures { HandedOut ranked.now.order ranked.now.dues self.old.lacks self.old.ends entries.old count t next self.new.lacks self.new.ends entries.new × SameEvents self.old self.new }
+    {
+        let mut from = t;
+        for k in 0..count {
+            let to = self.hand_one(ranked, entries, k, t, from, next);
+            if to == next {
+                return;
+            }
+            from = to;
+        }
+    }
+
+    // What slice t brings to the task at place k. The answer is its next event, or none if it misses its deadline there.
+    fn turn_one(&mut self, ranked: &Ranked, k: usize, t: u32) -> Option<u32>
+        requires { (k < 16) × Fits (at ranked.now.periods k) (at ranked.now.dues k) (at self.old.releases k) (at self.old.events k) t }
+        ensures { TurnedOne ranked.now.periods ranked.now.dues ranked.now.runtimes self.old.releases self.old.events self.old.lacks t k self.new.releases self.new.events self.new.lacks result × (self.new.ends ≡ self.old.ends) }
+    {
+        let event = self.events[k];
+        if event != t {
+            return Some(event);
+        }
+        if self.lacks[k] != 0 {
+            return None;
+        }
+        let release = self.releases[k] + ranked.periods[k];
+        if t < release {
+            self.events[k] = release;
+            return Some(release);
+        }
+        let due = t + ranked.dues[k];
+        self.releases[k] = t;
+        self.events[k] = due;
+        self.lacks[k] = ranked.runtimes[k];
+        Some(due)
+    }
+
+    // The first task by rank that misses its deadline at slice t; if none does, the next event of all.
+    fn turn(&mut self, ranked: &Ranked, count: usize, t: u32) -> Result<u32, Late>
+        requires { (count ≤ 16) × ((k : ℕ) → k < count → at ranked.now.order k < 16) × ((k : ℕ) → k < count → Fits (at ranked.now.periods k) (at ranked.now.dues k) (at self.old.releases k) (at self.old.events k) t) }
+        ensures { TurnedAll ranked.now.order ranked.now.periods ranked.now.dues ranked.now.runtimes self.old.releases self.old.events self.old.lacks count t self.new.releases self.new.events self.new.lacks result × (self.new.ends ≡ self.old.ends) }
+    {
+        let mut next: u32 = 8192;
+        for k in 0..count {
+            let Some(event) = self.turn_one(ranked, k, t) else {
+                return Err(Late {
+                    task: ranked.order[k] + 1,
+                    short: self.lacks[k],
+                });
+            };
+            next = next.min(event);
+        }
+        Ok(next)
     }
 }
 
-// The slice rule over a cycle, up to the first missed deadline, with the ends of the first jobs, and the entries if there are
-// enough of them. The first event is the first deadline by rank.
+// The slice rule over a cycle, up to the first missed deadline: the ends of the first jobs, and the entries if there are enough of
+// them. The first event is the first deadline by rank.
 pub(crate) fn simulate(
-    order: &[usize; 16],
-    periods: &[u32; 16],
-    dues: &[u32; 16],
-    runtimes: &[u32; 16],
+    ranked: &Ranked,
     count: usize,
     cycle: u32,
-    ends: &mut [u32; 16],
     entries: &mut [u8],
-) -> Late
-    requires { Shown count cycle order.now periods.now dues.now runtimes.now × (ends.old ≡ replicate 16 0) × ((x : ℕ) → at entries.old x ≡ 0) }
-    ensures { (S : Shown count cycle order.now periods.now dues.now runtimes.now) → Walked (plan_of S.list) cycle order.now (length entries.old) ends.new entries.new result }
+) -> Result<[u32; 16], Late>
+    requires { Shown count cycle ranked.now × ((x : ℕ) → at entries.old x ≡ 0) }
+    ensures { (S : Shown count cycle ranked.now) → Walked (plan_of S.list) cycle ranked.now.order (length entries.old) entries.new result }
 {
-    let mut lacks = *runtimes;
-    let mut events = *dues;
-    let mut releases = [0u32; 16];
+    let mut jobs = Jobs {
+        lacks: ranked.runtimes,
+        releases: [0; 16],
+        events: ranked.dues,
+        ends: [0; 16],
+    };
     let mut t = 0;
-    let mut next = dues[0];
+    let mut next = ranked.dues[0];
     while t < cycle {
-        hand_out(order, dues, &mut lacks, ends, entries, count, t, next);
-        let turned = turn(
-            order,
-            periods,
-            dues,
-            runtimes,
-            &mut releases,
-            &mut events,
-            &mut lacks,
-            count,
-            next,
-        );
-        let late = turned.late;
-        if late.task != 0 {
-            return late;
-        }
+        jobs.hand_out(ranked, entries, count, t, next);
+        let later = jobs.turn(ranked, count, next)?;
         t = next;
-        next = turned.next;
+        next = later;
     }
-    Late { task: 0, short: 0 }
+    Ok(jobs.ends)
 }
 
 // The margin of the task at place k.
@@ -243,11 +180,8 @@ pub(crate) fn tightest(dues: &[u32; 16], ends: &[u32; 16], count: usize) -> usiz
     ensures { TightestAt (margin_at dues.now ends.now) count result }
 {
     let mut best = 0;
-    let mut k = 1;
-    while k < count {
-        let next = tighter(dues, ends, k, best);
-        best = next;
-        k += 1;
+    for k in 1..count {
+        best = tighter(dues, ends, k, best);
     }
     best
 }

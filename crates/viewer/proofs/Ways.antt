@@ -1,50 +1,30 @@
 -- What each way out of the calls comes to, as laws over plain values.
 use mathlib.Core.Path.{◌≡◌, refl, sym, ap, ap₂, subst, ◌∙◌}
 use mathlib.Core.Bool.{Bool, true, false}
-use mathlib.Core.List.{List, [], ◌∷◌}
-use mathlib.Core.Logic.{◌⊎◌, inl, inr, ⊎_elim}
+use mathlib.Core.List.{List}
+use Rattle.std.specs.Prelude.{Some, Result, Ok, Err}
+use mathlib.Core.Logic.{◌⊎◌, inl, inr}
 use Prim.Native.Nat.{ℕ, ◌≤◌, ◌<◌}
 use native.Mathlib.Omega.{arith}
 use lib.Dec.{leb, eqb}
-use lib.IntN.{ℤ}
 use lib.ListN.{length, take, replicate, length-replicate}
-use types.Run.{OneOf}
-use denote.Enum.Declared.{tag_of}
 use lib.Seq.{take_all, length-take-le, get_or-take, ext_get_or}
-use borrow.Author.Tests.{eqb-true, eq-eqb, ne_eqb, le-leb, lt-leb}
+use borrow.Author.Tests.{eqb-true, le-leb, lt-leb}
 use Rattle.basis.specs.Bytes.{at, overwrite, overwrite_at, overwrite-length}
-use Rattle.basis.specs.Choose.{choose, choose_yes, choose_no, choose_either, eq_or_ne}
+use Rattle.basis.specs.Choose.{choose, choose_yes, choose_no, choose_either}
 use Rattle.tasks.specs.declared.TaskList.{TaskList}
-use Rattle.verdict.specs.declared.Verdict.{Verdict}
-use Rattle.verdict.specs.declared.Verdict.TheVariants.{Accepted, Refused as Judged}
-use Rattle.verdict.specs.Verdict.{verdict_of, verdict_answer}
+use Rattle.tasks.specs.declared.refusals.Refusal.{Refusal}
+use Rattle.verdict.specs.declared.Accepted.{Accepted}
+use Rattle.verdict.specs.Verdict.{Verdict, verdict_of, verdict_answer}
 use Rattle.verdict.proofs.Told.{accepted_tells}
 use Rattle.vcd.specs.Form.{vcd_text}
 use Rattle.dump.specs.Wrote.{Wrote}
-use Rattle.readback.specs.declared.Found.{Found}
-use Rattle.readback.specs.declared.Found.TheVariants.{Run, Bad}
+use Rattle.readback.specs.declared.Deviation.{Deviation}
 use Rattle.readback.specs.Reads.{ReadBack, NoForm as Formless, Reads}
-use Rattle.explain.specs.declared.Viewed.{Viewed}
-use Rattle.explain.specs.declared.Viewed.TheVariants.{Given, No, Refused}
-use Rattle.explain.specs.contracts.Viewed.{the_type}
-use Rattle.explain.specs.Seen.{refused_by, AfterList, entries_to, run_number, unless_refused, checked_by, checked_of, Explained, ExplainsRun}
+use Rattle.explain.specs.Seen.{Viewed, refused_by, AfterList, entries_to, run_number, unless_refused, checked_by, checked_of, Explained, ExplainsRun}
+use Rattle.explain.proofs.Answers.{lets_pass, refuses as refuses_by, was_passed, was_refused}
 use Rattle.viewer.specs.Viewer.{shown, WritesRun, Writes, NoForm, Of, ReadsRun, ReadsBack, ExplainsFile}
 use Rattle.viewer.specs.Shapes.{fitting, without_form_by, without_form, Gives}
-
--- Whatever is given is no refusal.
-apart : {A : Type 0} {n number task reached period : ℕ} {margin : ℤ} → Given n ≡ Refused number task margin reached period → A
-apart e = let z : ◌≡◌ {A = ℕ} 0 1 = cc in absurd (omega arith)
-
--- Whatever is one of the other two cases is not given.
-pub not_given : (c : Viewed) → OneOf (1 ∷ 2 ∷ []) (tag_of the_type c) → (n : ℕ) → c ≡ Given n → ⊥
-not_given c tag n e =
-    let first : tag_of the_type c ≡ 0 = ap (tag_of the_type) e in
-    ⊎_elim (λ (h : tag_of the_type c ≡ 1). omega arith) (λ (h : tag_of the_type c ≡ 2). omega arith) tag
-
-count_of : Viewed → ℕ
-count_of (Given n) = n
-count_of No = 0
-count_of (Refused number task margin reached period) = 0
 
 -- ---- the number of a run
 -- By its three tests: as long as the cycle, no entry above the count, room.
@@ -77,99 +57,86 @@ module _ (cycle count : ℕ) (run : List ℕ) where
 
 -- ---- what the checks answer
 refuses : (number count : ℕ) → (number ≡ 0 → ⊥) → unless_refused number count ≡ refused_by number 0
-unfolding unless_refused
-refuses number count some = choose_no _ (Given count) (refused_by number 0) (ne_eqb number 0 some)
+unfolding unless_refused refused_by
+refuses number count some = sym (refuses_by number (Some count) some)
 
-gives : (number count : ℕ) → number ≡ 0 → unless_refused number count ≡ Given count
+gives : (number count : ℕ) → number ≡ 0 → unless_refused number count ≡ Ok (Some count)
 unfolding unless_refused
-gives number count z = choose_yes _ (Given count) (refused_by number 0) (eq-eqb number 0 z)
+gives number count z = sym (lets_pass number (Some count) z)
 
 -- Refused by 31, or given: as the code decides it, and as the definitions do.
-fits_so : (b : Bool) (needed : ℕ) → choose b (Given needed) (refused_by 31 0) ≡ unless_refused (choose b 0 31) needed
+fits_so : (b : Bool) (needed : ℕ) → choose b (Ok (Some needed)) (refused_by 31 0) ≡ unless_refused (choose b 0 31) needed
 unfolding choose
 fits_so true needed = sym (gives 0 needed refl)
 fits_so false needed = sym (refuses 31 needed (λ z. omega arith))
 
 -- Written exactly if it fits.
-shows_so : (b : Bool) (needed : ℕ) (f : ℕ → ℕ) (old : List ℕ) → choose b (overwrite f needed old) old ≡ shown (choose b (Given needed) (refused_by 31 0)) f old
+shows_so : (b : Bool) (needed : ℕ) (f : ℕ → ℕ) (old : List ℕ) → choose b (overwrite f needed old) old ≡ shown (choose b (Ok (Some needed)) (refused_by 31 0)) f old
 unfolding choose shown refused_by
 shows_so true needed f old = refl
 shows_so false needed f old = refl
 
 -- A list and a run that pass the checks.
 record Passed (l : TaskList) (supply : ℕ) (run : List ℕ) (n : ℕ) : Type 0 where
-  jobs : ℕ
-  task : ℕ
-  margin : ℤ
-  is : verdict_of l supply ≡ Accepted n jobs task margin
+  accepted : Accepted
+  is : verdict_of l supply ≡ Ok accepted
+  cycle_is : n ≡ accepted.cycle
   whole : length run ≡ n
   short : n ≤ 4096
   number_is : (needed room : ℕ) → run_number n l.count run needed room ≡ choose (leb needed room) 0 31
 
 module _ (l : TaskList) (supply : ℕ) (run : List ℕ) where
-  passed_by : (v : Verdict) (n : ℕ) → verdict_of l supply ≡ v → Given n ≡ checked_by v l.count run → Passed l supply run n
-  unfolding checked_by refused_by count_of verdict_answer
-  passed_by (Judged number task margin reached period) n e g = apart g
-  passed_by (Accepted cycle jobs task margin) n e g =
-      ⊎_elim
-      (λ (z : run_number cycle l.count run 0 0 ≡ 0).
-      let same : n ≡ cycle = ap count_of (g ∙ gives _ cycle z) in
-      let told = accepted_tells l supply cycle jobs task margin e in
+  passed_by : (v : Verdict) (n : ℕ) → verdict_of l supply ≡ v → Ok n ≡ checked_by v l.count run → Passed l supply run n
+  unfolding checked_by verdict_answer
+  passed_by (Err r) n e g = let z : ◌≡◌ {A = ℕ} 0 1 = cc in absurd (omega arith)
+  passed_by (Ok a) n e g =
+      let z = was_passed (run_number a.cycle l.count run 0 0) a.cycle _ n refl (sym g) in
+      let both : Ok n ≡ Ok a.cycle = g ∙ sym (lets_pass (run_number a.cycle l.count run 0 0) a.cycle z) in
+      let same : n ≡ a.cycle = cc in
+      let told = accepted_tells l supply a e in
       record {
-        jobs = jobs;
-        task = task;
-        margin = margin;
-        is = e ∙ ap (λ (x : ℕ). Accepted x jobs task margin) (sym same);
-        whole = (number_passed cycle l.count run z 0 0).0 ∙ sym same;
+        accepted = a;
+        is = e;
+        cycle_is = same;
+        whole = (number_passed a.cycle l.count run z 0 0).0 ∙ sym same;
         short = omega (arith, same, ap (λ (v : Verdict). (verdict_answer v).cycle) told.is, told.keeps.cycle_within);
-        number_is = λ needed room. ap (λ (x : ℕ). run_number x l.count run needed room) same ∙ (number_passed cycle l.count run z needed room).1;
-      })
-      (λ (some : run_number cycle l.count run 0 0 ≡ 0 → ⊥). apart (g ∙ refuses _ cycle some))
-      (eq_or_ne (run_number cycle l.count run 0 0) 0)
-
-  passed : (n : ℕ) (c : Viewed) → c ≡ checked_of l supply run → c ≡ Given n → Passed l supply run n
-  unfolding checked_of
-  passed n c is g = passed_by (verdict_of l supply) n refl (sym g ∙ is)
+        number_is = λ needed room. ap (λ (x : ℕ). run_number x l.count run needed room) same ∙ (number_passed a.cycle l.count run z needed room).1;
+      }
 
   -- What is refused by the checks is refused, whatever is asked for then.
-  stopped_by : (v : Verdict) (c : Viewed) → c ≡ checked_by v l.count run → ((n : ℕ) → c ≡ Given n → ⊥) → (needed given : ℕ → ℕ) (f : ℕ → ℕ) (old : List ℕ)
-      → AfterList v (λ cycle jobs. (c ≡ unless_refused (run_number cycle l.count run (needed cycle) (length old)) (given cycle)) × (old ≡ shown c f old)) old old c
+  stopped_by : (v : Verdict) (r : Refusal) → Err r ≡ checked_by v l.count run → (needed given : ℕ → ℕ) (f : ℕ → ℕ) (old : List ℕ)
+      → AfterList v (λ cycle jobs. (Err r ≡ unless_refused (run_number cycle l.count run (needed cycle) (length old)) (given cycle)) × (old ≡ shown (Err r) f old)) old old (Err r)
   unfolding AfterList checked_by shown refused_by
-  stopped_by (Judged number task margin reached period) c is none needed given f old = (is, refl)
-  stopped_by (Accepted cycle jobs task margin) c is none needed given f old =
-      ⊎_elim
-      (λ (z : run_number cycle l.count run 0 0 ≡ 0). absurd (none cycle (is ∙ gives _ cycle z)))
-      (λ (some : run_number cycle l.count run 0 0 ≡ 0 → ⊥).
-      let kept = number_kept cycle l.count run some (needed cycle) (length old) in
-      let refused = is ∙ refuses _ cycle some in (
-        refused ∙ sym (ap (λ (x : ℕ). unless_refused x (given cycle)) kept ∙ refuses _ (given cycle) some),
-        sym (ap (λ (x : Viewed). shown x f old) refused),
-      ))
-      (eq_or_ne (run_number cycle l.count run 0 0) 0)
+  stopped_by (Err e) r is needed given f old = let same : r ≡ e = cc in (ap Err same, refl)
+  stopped_by (Ok a) r is needed given f old =
+      let refused = was_refused (run_number a.cycle l.count run 0 0) a.cycle _ r refl (sym is) in
+      let kept = number_kept a.cycle l.count run refused.0 (needed a.cycle) (length old) in
+      (ap Err refused.1 ∙ sym (ap (λ (x : ℕ). unless_refused x (given a.cycle)) kept ∙ refuses _ (given a.cycle) refused.0), refl)
 
 -- What is said of an accepted list, said otherwise.
 after : (v : Verdict) (A B : ℕ → ℕ → Type 0) (old new : List ℕ) (r : Viewed) → ((cycle jobs : ℕ) → A cycle jobs → B cycle jobs) → AfterList v A old new r → AfterList v B old new r
 unfolding AfterList
-after (Accepted cycle jobs task margin) A B old new r h a = h cycle jobs a
-after (Judged number task margin reached period) A B old new r h a = a
+after (Ok a) A B old new r h x = h a.cycle a.jobs x
+after (Err e) A B old new r h x = x
 
 -- ---- writing, and giving a run that was read
-module _ (l : TaskList) (supply : ℕ) (run : List ℕ) (c : Viewed) (is : c ≡ checked_of l supply run) where
-  pub writes_stopped : (old : List ℕ) → ((n : ℕ) → c ≡ Given n → ⊥) → Writes l supply run old old c
+module _ (l : TaskList) (supply : ℕ) (run : List ℕ) (c : Result ℕ Refusal) (is : c ≡ checked_of l supply run) where
+  pub writes_stopped : (old : List ℕ) (r : Refusal) → c ≡ Err r → Writes l supply run old old (Err r)
   unfolding Writes checked_of
-  writes_stopped old none =
-      after (verdict_of l supply) _ _ old old c (λ cycle jobs h. record { answer = h.0; bytes = h.1 })
-      (stopped_by l supply run (verdict_of l supply) c is none (λ _. length (vcd_text run)) (λ _. length (vcd_text run)) (at (vcd_text run)) old)
+  writes_stopped old r err =
+      after (verdict_of l supply) _ _ old old (Err r) (λ cycle jobs h. record { answer = h.0; bytes = h.1 })
+      (stopped_by l supply run (verdict_of l supply) r (sym err ∙ is) (λ _. length (vcd_text run)) (λ _. length (vcd_text run)) (at (vcd_text run)) old)
 
-  pub gives_stopped : (old : List ℕ) → ((n : ℕ) → c ≡ Given n → ⊥) → Gives l supply run old old c
+  pub gives_stopped : (old : List ℕ) (r : Refusal) → c ≡ Err r → Gives l supply run old old (Err r)
   unfolding Gives checked_of
-  gives_stopped old none =
-      after (verdict_of l supply) _ _ old old c (λ cycle jobs h. record { answer = h.0; bytes = h.1 })
-      (stopped_by l supply run (verdict_of l supply) c is none (λ cycle. cycle) (λ cycle. cycle) (at run) old)
+  gives_stopped old r err =
+      after (verdict_of l supply) _ _ old old (Err r) (λ cycle jobs h. record { answer = h.0; bytes = h.1 })
+      (stopped_by l supply run (verdict_of l supply) r (sym err ∙ is) (λ cycle. cycle) (λ cycle. cycle) (at run) old)
 
-  module _ (n : ℕ) (g : c ≡ Given n) where
-    abbrev pass : Passed l supply run n
-    pass = passed l supply run n c is g
+  module _ (n : ℕ) (g : c ≡ Ok n) where
+    pass : Passed l supply run n
+    unfolding checked_of
+    pass = passed_by l supply run (verdict_of l supply) n refl (sym g ∙ is)
 
     -- Given if there is room, and refused by 31 if there is none.
     answer_so : (needed room : ℕ) → fitting needed room ≡ unless_refused (run_number n l.count run needed room) needed
@@ -183,51 +150,48 @@ module _ (l : TaskList) (supply : ℕ) (run : List ℕ) (c : Viewed) (is : c ≡
         let text : Wrote (vcd_text run) old new m = rw all at wrote in
         let long : length new ≡ length old = ap length text.bytes ∙ choose_either (λ (x : List ℕ). length x ≡ length old) _ _ _ (overwrite-length _ old _) refl in
         let answer : r ≡ fitting (length (vcd_text run)) (length old) = fits ∙ ap₂ fitting text.whole long in
-        subst (λ (v : Verdict). AfterList v (λ cycle jobs. WritesRun l run old new r cycle) old new r) (sym pass.is) (record {
+        subst (λ (v : Verdict). AfterList v (λ cycle jobs. WritesRun l run old new r cycle) old new r) (sym pass.is)
+        (subst (λ (x : ℕ). WritesRun l run old new r x) pass.cycle_is (record {
           answer = answer ∙ answer_so (length (vcd_text run)) (length old);
           bytes = text.bytes ∙ shows_so _ _ (at (vcd_text run)) old ∙ ap (λ (x : Viewed). shown x (at (vcd_text run)) old) (sym answer);
-        })
+        }))
 
     -- A run that was read goes into the lent bytes if they are long enough.
     gives_so : (old new : List ℕ) (r : Viewed) → r ≡ fitting n (length old) → new ≡ shown r (at run) old → Gives l supply run old new r
     unfolding Gives AfterList
     gives_so old new r answer bytes =
-        subst (λ (v : Verdict). AfterList v (λ cycle jobs. ReadsRun l old new r cycle run) old new r) (sym pass.is) (record {
-          answer = answer ∙ answer_so n (length old);
-          bytes = bytes;
-        })
+        subst (λ (v : Verdict). AfterList v (λ cycle jobs. ReadsRun l old new r cycle run) old new r) (sym pass.is)
+        (subst (λ (x : ℕ). ReadsRun l old new r x run) pass.cycle_is (record { answer = answer ∙ answer_so n (length old); bytes = bytes }))
 
-    pub gives_short : (old : List ℕ) (r : Viewed) → length old < n → r ≡ refused_by 31 0 → Gives l supply run old old r
+    pub gives_short : (old : List ℕ) → length old < n → Gives l supply run old old (refused_by 31 0)
     unfolding fitting shown refused_by
-    gives_short old r l refused =
-        gives_so old old r (refused ∙ sym (choose_no _ _ _ (lt-leb n (length old) l))) (sym (ap (λ (x : Viewed). shown x (at run) old) refused))
+    gives_short old l = gives_so old old (refused_by 31 0) (sym (choose_no _ _ _ (lt-leb n (length old) l))) refl
 
-    pub gives_all : (old new : List ℕ) → n ≤ length old → new ≡ overwrite (at run) (length run) old → Gives l supply run old new (Given n)
+    pub gives_all : (old new : List ℕ) → n ≤ length old → new ≡ overwrite (at run) n old → Gives l supply run old new (Ok (Some n))
     unfolding fitting shown
-    gives_all old new l copied =
-        gives_so old new (Given n) (sym (choose_yes _ _ _ (le-leb n (length old) l))) (copied ∙ ap (λ (x : ℕ). overwrite (at run) x old) pass.whole)
+    gives_all old new l copied = gives_so old new (Ok (Some n)) (sym (choose_yes _ _ _ (le-leb n (length old) l))) copied
 
     pub run_whole : length run ≡ n
     run_whole = pass.whole
 
 -- ---- a file
 -- What reading it found.
-module _ (file a b : List ℕ) (found : Found) (n : ℕ) (reads : Reads file a b found) where
-  pub found_run : found ≡ Run n → ReadBack file a b n
+module _ (file a b : List ℕ) (found : Result ℕ Deviation) (reads : Reads file a b found) where
+  pub found_run : (n : ℕ) → found ≡ Ok n → ReadBack file a b n
   unfolding Reads
-  found_run e = subst (Reads file a b) e reads
+  found_run n e = subst (Reads file a b) e reads
 
-  pub found_bad : found ≡ Bad n → Formless file a b n
+  pub found_bad : (d : Deviation) → found ≡ Err d → Formless file a b d.place
   unfolding Reads
-  found_bad e = subst (Reads file a b) e reads
+  found_bad d e = subst (Reads file a b) e reads
 
 -- One that is the form of no run, whatever would be said of one that is.
 formless_by : (v : Verdict) (file old a b : List ℕ) (place : ℕ) (r : Viewed) (Said : ℕ → ℕ → Type 0) → Formless file a b place → r ≡ without_form_by v place
     → AfterList v (λ cycle jobs. NoForm file old old r ⊎ Said cycle jobs) old old r
 unfolding AfterList without_form_by
-formless_by (Accepted cycle jobs task margin) file old a b place r Said formless answer =
+formless_by (Ok v) file old a b place r Said formless answer =
     inl (record { none_is = formless.none; place = place; longest = formless.longest; answer = answer; bytes = refl })
-formless_by (Judged number task margin reached period) file old a b place r Said formless answer = (answer, refl)
+formless_by (Err e) file old a b place r Said formless answer = (answer, refl)
 
 -- One that is the form of a run, which is read aside.
 abbrev fresh : List ℕ
@@ -278,11 +242,10 @@ module _ (l : TaskList) (supply : ℕ) (file old a b : List ℕ) (place : ℕ) (
 
 -- ---- the list's refusal before 18
 module _ (l : TaskList) (supply : ℕ) (place : ℕ) (v : Verdict) (judged : v ≡ verdict_of l supply) where
-  pub list_refused : (number task reached period : ℕ) (margin signed : ℤ) → v ≡ Judged number task margin reached period → signed ≡ margin → Refused number task signed reached period ≡ without_form l supply place
+  pub list_refused : (r : Refusal) → v ≡ Err r → Err r ≡ without_form l supply place
   unfolding without_form without_form_by
-  list_refused number task reached period margin signed e same =
-      ap (λ (m : ℤ). Refused number task m reached period) same ∙ sym (ap (λ (x : Verdict). without_form_by x place) (sym judged ∙ e))
+  list_refused r e = sym (ap (λ (x : Verdict). without_form_by x place) (sym judged ∙ e))
 
-  pub list_accepted : (cycle jobs task : ℕ) (margin : ℤ) (r : Viewed) → v ≡ Accepted cycle jobs task margin → r ≡ refused_by 18 place → r ≡ without_form l supply place
+  pub list_accepted : (a : Accepted) → v ≡ Ok a → refused_by 18 place ≡ without_form l supply place
   unfolding without_form without_form_by
-  list_accepted cycle jobs task margin r e is = is ∙ sym (ap (λ (x : Verdict). without_form_by x place) (sym judged ∙ e))
+  list_accepted a e = sym (ap (λ (x : Verdict). without_form_by x place) (sym judged ∙ e))

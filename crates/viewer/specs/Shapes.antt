@@ -1,23 +1,19 @@
 -- What the private functions come to.
-use Rattle.std.specs.Prelude.{List, ℕ, leb}
+use Rattle.std.specs.Prelude.{List, ℕ, leb, Some, Ok, Err}
 use Rattle.basis.specs.Choose.{choose}
 use Rattle.tasks.specs.declared.TaskList.{TaskList}
-use Rattle.verdict.specs.declared.Verdict.{Verdict}
-use Rattle.verdict.specs.declared.Verdict.TheVariants.{Accepted, Refused as Judged}
-use Rattle.verdict.specs.Verdict.{verdict_of}
-use Rattle.explain.specs.declared.Viewed.{Viewed}
-use Rattle.explain.specs.declared.Viewed.TheVariants.{Given, Refused}
-use Rattle.explain.specs.Seen.{refused_by, AfterList}
+use Rattle.verdict.specs.Verdict.{Verdict, verdict_of}
+use Rattle.explain.specs.Seen.{Viewed, refused_by, AfterList}
 use Rattle.viewer.specs.Viewer.{ReadsRun}
 
 -- So much is given, or there is no room for it.
 unfoldable pub fitting : ℕ → ℕ → Viewed
-fitting needed room = choose (leb needed room) (Given needed) (refused_by 31 0)
+fitting needed room = choose (leb needed room) (Ok (Some needed)) (refused_by 31 0)
 
 -- The list's refusal, or 18.
 unfoldable pub without_form_by : Verdict → ℕ → Viewed
-without_form_by (Accepted cycle jobs task margin) place = refused_by 18 place
-without_form_by (Judged number task margin reached period) place = Refused number task margin reached period
+without_form_by (Ok a) place = refused_by 18 place
+without_form_by (Err r) place = Err r
 
 unfoldable pub without_form : TaskList → ℕ → ℕ → Viewed
 without_form l supply place = without_form_by (verdict_of l supply) place

@@ -1,18 +1,16 @@
 -- Writing a run of a list for the viewer, reading one back, and explaining one by needs: what each call answers and writes.
-use Rattle.std.specs.Prelude.{◌≡◌, List, ◌⊎◌, ℕ, length}
+use Rattle.std.specs.Prelude.{◌≡◌, List, ◌⊎◌, ℕ, length, Some, None, Ok, Err}
 use Rattle.basis.specs.Bytes.{at, overwrite}
 use Rattle.tasks.specs.declared.TaskList.{TaskList}
 use Rattle.verdict.specs.Verdict.{verdict_of}
 use Rattle.vcd.specs.Form.{vcd_text, OfRun, Longest}
-use Rattle.explain.specs.declared.Viewed.{Viewed}
-use Rattle.explain.specs.declared.Viewed.TheVariants.{Given, No, Refused}
-use Rattle.explain.specs.Seen.{refused_by, AfterList, run_number, unless_refused, Explained}
+use Rattle.explain.specs.Seen.{Viewed, refused_by, AfterList, run_number, unless_refused, Explained}
 
 -- Given, the numbers stand from the first place on, and what lies behind them stays; else nothing is written.
 unfoldable pub shown : Viewed → (ℕ → ℕ) → List ℕ → List ℕ
-shown (Given count) f old = overwrite f count old
-shown No f old = old
-shown (Refused number task margin reached period) f old = old
+shown (Ok (Some count)) f old = overwrite f count old
+shown (Ok None) f old = old
+shown (Err r) f old = old
 
 -- ---- writing
 pub record WritesRun (l : TaskList) (run old new : List ℕ) (r : Viewed) (cycle : ℕ) : Type 0 where

@@ -1,38 +1,21 @@
 // What a logic viewer shows of a task list: a run written as a Value Change Dump, one read back, and one explained by needs.
 #![tactic(auto)]
 
-ghost use Rattle.std.specs.Prelude.{◌≡◌, ◌≤◌, length};
-ghost use Rattle.basis.specs.Bytes.{at, overwrite};
-ghost use Rattle.explain.specs.Seen.{refused_by};
+ghost use Rattle.std.specs.Prelude.{◌≡◌};
 ghost use Rattle.viewer.specs.Viewer.{Writes, ReadsBack, ExplainsFile};
 ghost use Rattle.viewer.specs.Shapes.{fitting, without_form, Gives};
 
 use explain::Viewed;
-use readback::Found;
-use tasks::TaskList;
-use verdict::Verdict;
-
-// A refusal of the run's or the file's.
-fn refused(number: u32, place: usize) -> Viewed
-    ensures { result ≡ refused_by number place }
-{
-    Viewed::Refused {
-        number,
-        task: place,
-        margin: 0,
-        reached: 0,
-        period: 0,
-    }
-}
+use tasks::{Refusal, TaskList};
 
 // So much is given, if there is room for it.
 fn fit(length: usize, room: usize) -> Viewed
     ensures { result ≡ fitting length room }
 {
     if length <= room {
-        Viewed::Given(length)
+        Ok(Some(length))
     } else {
-        refused(31, 0)
+        Err(Refusal::NoRoom)
     }
 }
 
@@ -40,58 +23,27 @@ fn fit(length: usize, room: usize) -> Viewed
 fn no_form(list: TaskList, supply: u32, place: usize) -> Viewed
     ensures { result ≡ without_form list supply place }
 {
-    match verdict::judge(list, supply) {
-        Verdict::Refused {
-            number,
-            task,
-            margin,
-            reached,
-            period,
-        } => Viewed::Refused {
-            number,
-            task,
-            margin,
-            reached,
-            period,
-        },
-        Verdict::Accepted { .. } => refused(18, place),
-    }
-}
-
-fn copy(run: &[u8], out: &mut [u8])
-    requires { length run.now ≤ length out.old }
-    ensures { out.new ≡ overwrite (at run.now) (length run.now) out.old }
-{
-    let mut t = 0;
-    while t < run.len() {
-        out[t] = run[t];
-        t += 1;
-    }
+    verdict::judge(list, supply)?;
+    Err(Refusal::OtherForm { place })
 }
 
 // Gives a run that was read, if it is one of the list and there is room for it.
 fn give(list: TaskList, supply: u32, run: &[u8], out: &mut [u8]) -> Viewed
     ensures { Gives list supply run.now out.old out.new result }
 {
-    let checked = explain::check_run(list, supply, run);
-    let Viewed::Given(cycle) = checked else {
-        return checked;
-    };
+    let cycle = explain::check_run(list, supply, run)?;
     if out.len() < cycle {
-        return refused(31, 0);
+        return Err(Refusal::NoRoom);
     }
-    copy(run, out);
-    checked
+    out[..cycle].copy_from_slice(run);
+    Ok(Some(cycle))
 }
 
 // Writes who ran in each slice of a cycle as a Value Change Dump.
 pub fn write(list: TaskList, supply: u32, run: &[u8], out: &mut [u8]) -> Viewed
     ensures { Writes list supply run.now out.old out.new result }
 {
-    let checked = explain::check_run(list, supply, run);
-    let Viewed::Given(_) = checked else {
-        return checked;
-    };
+    explain::check_run(list, supply, run)?;
     let length = dump::write(run, out);
     fit(length, out.len())
 }
@@ -102,8 +54,8 @@ pub fn read(list: TaskList, supply: u32, file: &[u8], out: &mut [u8]) -> Viewed
 {
     let mut run = [0u8; 4096];
     match readback::read(file, &mut run) {
-        Found::Bad(place) => no_form(list, supply, place),
-        Found::Run(length) => give(list, supply, &run[..length], out),
+        Err(other) => no_form(list, supply, other.place),
+        Ok(length) => give(list, supply, &run[..length], out),
     }
 }
 
@@ -114,7 +66,7 @@ pub fn explain(list: TaskList, supply: u32, file: &[u8], needs: &mut [u32]) -> V
 {
     let mut run = [0u8; 4096];
     match readback::read(file, &mut run) {
-        Found::Bad(place) => no_form(list, supply, place),
-        Found::Run(length) => explain::explain_run(list, supply, &run[..length], needs),
+        Err(other) => no_form(list, supply, other.place),
+        Ok(length) => explain::explain_run(list, supply, &run[..length], needs),
     }
 }

@@ -1,43 +1,21 @@
 -- `bench::note` meets its contract, place by place.
-use Rattle.std.proofs.Common.{◌≡◌, length, refl, arith}
-use Rattle.basis.specs.Bytes.{overwrite, overwritten_length}
+use Rattle.std.proofs.Common.{◌≡◌, length, get_or, refl, arith, rules}
+use Rattle.basis.specs.Bytes.{overwrite}
 use Rattle.bench.specs.Course.{noted}
 use Rattle.bench.proofs.Turns.{one_more_noted}
 use Rattle.bench.proofs.note.Goals as goal
 
 pub loop-i-init : goal.loop-i-init
 unfolding overwrite
-loop-i-init c = (omega arith, refl, refl)
-
-pub offset_bounds-ends-i : goal.offset_bounds-ends-i
-offset_bounds-ends-i c = omega arith
-
-pub bounds-ends-i : goal.bounds-ends-i
-bounds-ends-i c = omega arith
-
-pub offset_bounds-ends-i-in-loop-i : goal.offset_bounds-ends-i-in-loop-i
-offset_bounds-ends-i-in-loop-i c = omega arith
-
-pub bounds-ends-i-in-loop-i : goal.bounds-ends-i-in-loop-i
-bounds-ends-i-in-loop-i c = omega arith
-
-pub overflow_add-i : goal.overflow_add-i
-overflow_add-i c = omega arith
-
-pub loop-i-smaller : goal.loop-i-smaller
-loop-i-smaller c = omega arith
+loop-i-init c = refl
 
 pub loop-i-preserved : goal.loop-i-preserved
 loop-i-preserved c =
-    let a = c.args in
-    let next = one_more_noted a.log.now a.ends.now _ _ _ _ _ c.loop-i.invariant.1 c.byte_at.ensures c.end_of.ensures in
-    (omega arith, next, overwritten_length _ _ _ _ next)
-
-pub shape_of-ends : goal.shape_of-ends
-shape_of-ends c = c.loop-i.invariant.2
+    let read : c.unwrap_or-byte.result ≡ get_or c.args.log.now c.loop-i.i 0 = search rules in
+    one_more_noted c.args.log.now c.args.ends.now _ _ _ _ _ c.loop-i.invariant read c.end_of.ensures
 
 pub returns : goal.returns
 unfolding noted
 returns c =
     let end : c.loop-i.i ≡ length c.args.ends.now = omega arith in
-    rw end at c.loop-i.invariant.1
+    rw end at c.loop-i.invariant

@@ -1,13 +1,8 @@
 -- `dump::put_changes` meets its contract, slice by slice.
-use Prim.Native.Nat.{◌-◌, ◌≤◌}
-use mathlib.Core.Path.{◌≡◌}
+use Rattle.std.proofs.Common.{◌≡◌}
 use Rattle.printing.specs.Shapes.{Put}
 use Rattle.dump.specs.Shapes.{entry_before, changes_to}
 use Rattle.dump.proofs.put_changes.Given as goal
 
 abbrev pub invariant-loop-t : goal.invariant-loop-t
-invariant-loop-t l =
-    (l.t ≤ l.slices) × (l.before ≡ entry_before l.run l.t) × Put (changes_to l.run l.t) l.at l.initial.out l.out l.next
-
-abbrev pub decreases-loop-t : goal.decreases-loop-t
-decreases-loop-t l = l.slices - l.t
+invariant-loop-t l = (l.before ≡ entry_before l.run l.t) × Put (changes_to l.run l.t) l.at l.initial.out l.out l.end

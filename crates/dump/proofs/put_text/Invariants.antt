@@ -1,11 +1,7 @@
 -- `dump::put_text` meets its contract, byte by byte.
-use Prim.Native.Nat.{◌-◌, ◌+◌, ◌≤◌}
-use lib.ListN.{length, take}
+use Rattle.std.proofs.Common.{◌+◌, take}
 use Rattle.printing.specs.Shapes.{Put}
 use Rattle.dump.proofs.put_text.Given as goal
 
 abbrev pub invariant-loop-i : goal.invariant-loop-i
-invariant-loop-i l = (l.i ≤ length l.text) × Put (take l.i l.text) l.at l.initial.out l.out (l.at + l.i)
-
-abbrev pub decreases-loop-i : goal.decreases-loop-i
-decreases-loop-i l = length l.text - l.i
+invariant-loop-i l = Put (take l.i l.text) l.at l.initial.out l.out (l.at + l.i)

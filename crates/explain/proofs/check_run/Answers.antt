@@ -1,11 +1,17 @@
 -- `explain::check_run` meets its contract.
-use borrow.Author.Rules.{rules}
-use Rattle.explain.proofs.Answers.{check_refused, check_accepted}
-use borrow.Author.Rules.{rules}
+use Rattle.std.proofs.Common.{rules, ◌≡◌, ◌∙◌, Err}
+use Rattle.explain.proofs.Answers.{check_refused, run_checked, run_unchecked}
 use Rattle.explain.proofs.check_run.Goals as goal
 
-pub returns-in-Refused : goal.returns-in-Refused
-returns-in-Refused c = check_refused _ _ _ _ c.judge.ensures _ _ _ _ _ _ c.in-Refused.is (search rules)
+pub returns-in_err-accepted : goal.returns-in_err-accepted
+returns-in_err-accepted c =
+    let gives : c.from_residual.result ≡ Err c.in_err-accepted.field-0.0 = search rules in
+    gives ∙ check_refused _ _ _ _ c.judge.ensures _ c.in_err-accepted.was
 
-pub returns-in-Accepted : goal.returns-in-Accepted
-returns-in-Accepted c = check_accepted _ _ _ _ c.judge.ensures _ _ _ _ c.in-Accepted.is _ _ c.run_number-number.ensures c.unless_refused.ensures
+pub returns-in_err-check : goal.returns-in_err-check
+returns-in_err-check c =
+    let gives : c.from_residual-in_err-check.result ≡ Err c.in_err-check.field-0.0 = search rules in
+    gives ∙ run_unchecked _ _ _ _ c.judge.ensures _ c.in_ok-accepted.was _ c.check.ensures _ c.in_err-check.was
+
+pub returns : goal.returns
+returns c = run_checked _ _ _ _ c.judge.ensures _ c.in_ok-accepted.was _ c.check.ensures c.in_ok-check.was

@@ -1,27 +1,16 @@
--- `explain::entries_to` meets its contract: the first n entries are tested.
-use mathlib.Core.Path.{◌≡◌, refl}
-use native.Mathlib.Omega.{arith}
-use native.Mathlib.Numerals.{add-one}
-use lib.ListN.{length}
+-- `explain::entries_to` meets its contract: the entries so far are tested.
+use Rattle.std.proofs.Common.{refl, ◌≡◌, arith, length}
+use Rattle.std.proofs.Math.Numerals.{add-one}
 use Rattle.explain.specs.Seen.{entries_to}
 use Rattle.explain.proofs.entries_to.Goals as goal
 
-pub loop-n-init : goal.loop-n-init
+pub loop-entry-init : goal.loop-entry-init
 unfolding entries_to
-loop-n-init c = (omega arith, refl)
+loop-entry-init c = refl
 
-pub bounds-run-n : goal.bounds-run-n
-bounds-run-n c = omega arith
-
-pub overflow_add-n : goal.overflow_add-n
-overflow_add-n c = omega arith
-
-pub loop-n-smaller : goal.loop-n-smaller
-loop-n-smaller c = omega arith
-
-pub loop-n-preserved : goal.loop-n-preserved
+pub loop-entry-preserved : goal.loop-entry-preserved
 unfolding entries_to
-loop-n-preserved c = (omega arith, rw add-one (cc))
+loop-entry-preserved c = rw (add-one c.loop-entry.entry-index, c.loop-entry.invariant, c.from.ensures) refl
 
 pub returns : goal.returns
-returns c = let e : c.loop-n.n ≡ length c.args.run.now = omega arith in cc
+returns c = let end : c.loop-entry.entry-index ≡ length c.args.run.now = omega arith in rw end at c.loop-entry.invariant

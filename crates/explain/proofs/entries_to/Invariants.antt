@@ -1,12 +1,7 @@
--- `explain::entries_to` meets its contract: the first n entries are tested.
-use Prim.Native.Nat.{◌≤◌, ◌-◌}
-use mathlib.Core.Path.{◌≡◌}
-use lib.ListN.{length}
+-- `explain::entries_to` meets its contract: the entries so far are tested.
+use Rattle.std.proofs.Common.{◌≡◌}
 use Rattle.explain.specs.Seen.{entries_to}
 use Rattle.explain.proofs.entries_to.Given as goal
 
-abbrev pub invariant-loop-n : goal.invariant-loop-n
-invariant-loop-n l = (l.n ≤ length l.run) × (l.fine ≡ entries_to l.count l.run l.n)
-
-abbrev pub decreases-loop-n : goal.decreases-loop-n
-decreases-loop-n l = length l.run - l.n
+abbrev pub invariant-loop-entry : goal.invariant-loop-entry
+invariant-loop-entry l = l.fine ≡ entries_to l.count l.run l.entry-index

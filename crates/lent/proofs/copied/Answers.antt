@@ -1,18 +1,15 @@
--- `lent::copied` meets its contract: with each turn one record more is filled in, until all are that have a place.
-use Rattle.std.proofs.Common.{◌≡◌, ℕ, length, ap, ◌∙◌, arith, add-one}
-use Rattle.tasks.specs.declared.TaskList.{TaskList}
-use Rattle.tasks.specs.List.{task_at, no_task}
-use Rattle.lent.specs.Shapes.{filled, with_task, filled_none, filled_next, filled_all}
+-- `lent::copied` meets its contract: the records that have a place stand at the front, and no task after them.
+use Rattle.std.proofs.Common.{◌≡◌, ℕ, List, ◌++◌, length, take, drop, replicate, min, ◌∙◌, arith}
+use Rattle.basis.proofs.Overwritten.{copied_front}
+use Rattle.tasks.specs.declared.Task.{Task}
+use Rattle.tasks.specs.List.{no_task, task_at, list_of}
+use Rattle.lent.specs.Shapes.{filled, filled_all}
 use Rattle.lent.proofs.copied.Goals as goal
 
-pub loop-i-init : goal.loop-i-init
-loop-i-init c = (omega arith, c.empty-list.ensures ∙ filled_none c.args.tasks.now _)
-
-pub loop-i-preserved : goal.loop-i-preserved
-unfolding task_at no_task
-loop-i-preserved c = (omega arith, rw (add-one c.loop-i.i) (c.with_task-next.ensures ∙ ap (λ (l : TaskList). with_task l c.loop-i.i (task_at c.args.tasks.now c.loop-i.i)) c.loop-i.invariant.1 ∙ filled_next _ _ _))
+makes_list : (ts front : List Task) (n : ℕ) → n ≡ min (length ts) 16 → front ≡ take n ts → record { tasks = front ++ drop n (replicate 16 no_task); count = length ts } ≡ list_of ts
+unfolding filled task_at
+makes_list ts front n held is = (λ j. record { tasks = copied_front no_task ts (replicate 16 no_task) front n is (omega arith) (omega arith) j; count = length ts }) ∙ filled_all ts n held
 
 pub returns : goal.returns
-returns c =
-    let end : c.loop-i.i ≡ c.held-end.result = omega arith in
-    c.loop-i.invariant.1 ∙ ap (λ (i : ℕ). filled c.args.tasks.now i (length c.args.tasks.now)) end ∙ filled_all _ _ c.held-end.ensures
+unfolding no_task
+returns c = makes_list _ _ _ c.min-held.ensures c.copy_from_slice.ensures.after

@@ -1,13 +1,12 @@
 -- `note_list` meets its contract.
-use native.Mathlib.Omega.{arith}
-use Rattle.ozhmandil.proofs.Ways.{notes_accepted, notes_other, notes_clash}
+use Rattle.std.proofs.Common.{arith}
+use Rattle.verdict.specs.Verdict.{verdict_answer}
+use Rattle.ozhmandil.proofs.Ways.{notes_accepted}
 use Rattle.ozhmandil.proofs.note_list.Goals as goal
 
-pub returns-in_default : goal.returns-in_default
-returns-in_default c = record { written = notes_accepted _ _ _ _ _ c.in_default.is; upper_bound = omega arith }
+pub returns-in-Err-clause-written : goal.returns-in-Err-clause-written
+unfolding verdict_answer
+returns-in-Err-clause-written c = rw c.in-Err.is c.note_refusal.ensures.written
 
-pub returns-then-number-ne6 : goal.returns-then-number-ne6
-returns-then-number-ne6 c = record { written = notes_other _ _ _ _ _ _ c.in-Refused.is c.if-number-ne6.true; upper_bound = omega arith }
-
-pub returns : goal.returns
-returns c = record { written = notes_clash _ _ _ _ _ _ c.in-Refused.is c.if-number-ne6.false c.write_clash.ensures.written; upper_bound = c.write_clash.ensures.upper_bound }
+pub returns-in-Ok : goal.returns-in-Ok
+returns-in-Ok c = record { written = notes_accepted _ _ c.in-Ok.is; upper_bound = omega arith }

@@ -4,10 +4,10 @@ use Rattle.records.specs.Grammar.{form_answer}
 use Rattle.output.specs.Output.{record_of}
 use Rattle.ozhmandil.proofs.refuse_form.Goals as goal
 
-pub returns-in-Bad : goal.returns-in-Bad
-unfolding record_of form_answer refusal none
-returns-in-Bad c = record { written = rw c.in-Bad.is c.write_refusal.ensures.written; upper_bound = c.write_refusal.ensures.upper_bound }
+pub returns-in-Err-clause-written : goal.returns-in-Err-clause-written
+unfolding record_of form_answer refusal
+returns-in-Err-clause-written c = rw c.in-Err.is c.write_refusal.ensures.written
 
-pub returns-in-Good : goal.returns-in-Good
+pub returns-in-Ok-clause-written : goal.returns-in-Ok-clause-written
 unfolding record_of form_answer refusal none
-returns-in-Good c = record { written = rw c.in-Good.is c.write_refusal-in-Good.ensures.written; upper_bound = c.write_refusal-in-Good.ensures.upper_bound }
+returns-in-Ok-clause-written c = rw c.in-Ok.is c.write_refusal-in-Ok.ensures.written

@@ -1,20 +1,19 @@
 -- `printing::write_needs` meets its contract.
-use native.Mathlib.Omega.{arith}
+use Rattle.std.proofs.Common.{refl, rules}
 use Rattle.printing.specs.Text.{ascii, crlf, needs_header, needs_text}
-use Rattle.printing.proofs.Chain.{chain, put_whole}
+use Rattle.printing.proofs.Chain.{puts_chain, puts_whole}
 use Rattle.printing.proofs.Rooms.{needs_room, needs_room_enough}
 use Rattle.printing.proofs.write_needs.Goals as goal
 
-pub put_needs-requires : goal.put_needs-requires
+pub needs-requires : goal.needs-requires
 unfolding needs_header crlf ascii
-put_needs-requires c =
-    let jobs = c.shared_slice_known-1 in
-    let known = c.shared_slice_known-2-1 in
-    needs_room c.args.needs.now _ (λ i. omega (arith, jobs.given i)) (λ i. omega (arith, known.given i)) c.put_text-next.ensures
+needs-requires c =
+    needs_room c.args.needs.now _ (λ i. (c.type_inv.jobs i).fits) (λ i. (c.type_inv.needs i).fits) c.text.ensures.put
 
 pub returns : goal.returns
 unfolding needs_text needs_header crlf ascii
 returns c =
-    let known = c.shared_slice_known-2-1 in
-    let whole = put_whole (chain c.put_text-next.ensures c.put_needs.ensures) in
-    record { written = whole; upper_bound = needs_room_enough _ _ (λ i. omega (arith, known.given i)) whole }
+    let all = puts_chain c.text.ensures c.needs.ensures in
+    let same = all.same_bytes in
+    let whole = puts_whole all refl (search rules) in
+    record { written = whole; upper_bound = needs_room_enough _ _ (λ i. (c.type_inv.needs i).fits) whole }

@@ -1,13 +1,15 @@
 -- `quick::ask` meets its contract.
-use mathlib.Core.Path.{sym, ◌∙◌}
+use Rattle.std.proofs.Common.{rules, ◌≡◌, ◌∙◌, sym, Err}
 use Rattle.quick.proofs.Answers.{broken, kept_bounded, kept}
 use Rattle.quick.proofs.ask.Goals as goal
 
+pub returns-in_err-bounds : goal.returns-in_err-bounds
+returns-in_err-bounds c =
+    let gives : c.from_residual.result ≡ Err c.in_err-bounds.field-0.0 = search rules in
+    gives ∙ broken _ _ _ (sym c.check_bounds.ensures ∙ c.in_err-bounds.was)
+
 pub try_points-requires : goal.try_points-requires
-try_points-requires c = kept_bounded _ _ _ _ (sym c.check_bounds.ensures ∙ c.in-Kept.is)
+try_points-requires c = kept_bounded _ _ _ (sym c.check_bounds.ensures ∙ c.in_ok-bounds.was)
 
-pub returns-in-Broken : goal.returns-in-Broken
-returns-in-Broken c = broken _ _ _ _ _ _ (sym c.check_bounds.ensures ∙ c.in-Broken.is)
-
-pub returns-in-Kept : goal.returns-in-Kept
-returns-in-Kept c = kept _ _ _ _ (sym c.check_bounds.ensures ∙ c.in-Kept.is) _ c.try_points.ensures
+pub returns : goal.returns
+returns c = kept _ _ _ (sym c.check_bounds.ensures ∙ c.in_ok-bounds.was) _ c.try_points.ensures

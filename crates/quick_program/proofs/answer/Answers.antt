@@ -2,28 +2,16 @@
 use Rattle.quick_program.proofs.Ways.{answers_too_long, answers_bad_line, answers_accepted, answers_refused}
 use Rattle.quick_program.proofs.answer.Goals as goal
 
-pub returns-then-input-gt4096 : goal.returns-then-input-gt4096
-returns-then-input-gt4096 c =
-    let printed = c.write_quick.ensures in
-    record { quick_answers = answers_too_long c.if-input-gt4096.true printed.written; upper_bound = printed.upper_bound }
+pub returns-then-input-gt4096-clause-quick_answers : goal.returns-then-input-gt4096-clause-quick_answers
+returns-then-input-gt4096-clause-quick_answers c = answers_too_long c.if-input-gt4096.true c.write_quick.ensures.written
 
-pub returns-in-Bad : goal.returns-in-Bad
-returns-in-Bad c =
-    let printed = c.write_quick-in-Bad.ensures in
-    record { quick_answers = answers_bad_line _ c.if-input-gt4096.false c.read_list-parsed.ensures _ c.in-Bad.is printed.written; upper_bound = printed.upper_bound }
+pub returns-in-Err-clause-quick_answers : goal.returns-in-Err-clause-quick_answers
+returns-in-Err-clause-quick_answers c = answers_bad_line _ c.if-input-gt4096.false c.read_list.ensures _ c.in-Err.is c.write_quick-in-Err.ensures.written
 
-pub returns-in-Accepted : goal.returns-in-Accepted
-returns-in-Accepted c =
-    let printed = c.write_quick-in-Accepted.ensures in
-    record {
-      quick_answers = answers_accepted _ c.if-input-gt4096.false c.read_list-parsed.ensures c.in_default.is _ c.ask_list.ensures c.in-Accepted.is printed.written;
-      upper_bound = printed.upper_bound;
-    }
+pub returns-in-Ok-ask_list-clause-quick_answers : goal.returns-in-Ok-ask_list-clause-quick_answers
+returns-in-Ok-ask_list-clause-quick_answers c =
+    answers_accepted _ c.if-input-gt4096.false c.read_list.ensures _ c.in-Ok.is _ c.ask_list.ensures _ c.in-Ok-ask_list.is c.write_quick-in-Ok-ask_list.ensures.written
 
-pub returns-in-Refused : goal.returns-in-Refused
-returns-in-Refused c =
-    let printed = c.write_quick-in-Refused.ensures in
-    record {
-      quick_answers = answers_refused _ c.if-input-gt4096.false c.read_list-parsed.ensures c.in_default.is _ c.ask_list.ensures _ _ c.in-Refused.is printed.written;
-      upper_bound = printed.upper_bound;
-    }
+pub returns-in-Err-ask_list-clause-quick_answers : goal.returns-in-Err-ask_list-clause-quick_answers
+returns-in-Err-ask_list-clause-quick_answers c =
+    answers_refused _ c.if-input-gt4096.false c.read_list.ensures _ c.in-Ok.is _ c.ask_list.ensures _ c.in-Err-ask_list.is c.number.ensures c.task.ensures c.write_quick-in-Err-ask_list.ensures.written

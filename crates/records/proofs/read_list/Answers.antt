@@ -1,44 +1,31 @@
--- `records::read_list` meets its contract: after i bytes, what is left to read comes to the same answer as the whole input.
-use mathlib.Core.Path.{sym, ◌∙◌}
+-- `records::read_list` meets its contract: what is left to read comes to the same answer as the whole input.
+use mathlib.Core.Path.{refl, sym, ◌∙◌}
 use native.Mathlib.Omega.{arith}
-use Rattle.records.proofs.Turns.{no_byte_yet, pair_inside, line_ends, line_goes_on, no_byte_more}
+use borrow.Author.Tests.{ltb-true}
+use Rattle.std.proofs.lemmas.Result.{err_from_is_err_and}
+use Rattle.records.proofs.Turns.{no_byte_yet, line_ends, line_named, line_goes_on, no_byte_more}
+use Rattle.records.proofs.read_list.Goals.{in_default-rest-via-then-rest-lt2, in_default-rest-via-else-rest-lt2+in-13+in_default-1, in_default-rest-via-else-rest-lt2+in_default-1}
 use Rattle.records.proofs.read_list.Goals as goal
 
-pub loop-i-init : goal.loop-i-init
-loop-i-init c = no_byte_yet _ _ _ c.no_tasks-none.ensures c.fresh_line-line.ensures
+pub loop-rest-init : goal.loop-rest-init
+loop-rest-init c = no_byte_yet _ _ _ c.no_tasks-list.ensures c.fresh_line.ensures
 
-pub is_pair-requires : goal.is_pair-requires
-is_pair-requires c = omega arith
+pub returns-in_err-list : goal.returns-in_err-list
+returns-in_err-list c =
+    let p = err_from_is_err_and c.from_residual.result c.from_residual.ensures.1 in
+    rw (p.1, p.2)
+    (line_named _ _ (record { two = omega arith; cr = omega arith; lf = omega arith }) c.loop-rest.invariant (sym c.close_line.ensures ∙ c.in_err-list.was))
 
-pub close_line-next-requires : goal.close_line-next-requires
-close_line-next-requires c = omega arith
+pub loop-rest-preserved-in-10-1 : goal.loop-rest-preserved-in-10-1
+loop-rest-preserved-in-10-1 c =
+    line_ends _ _ _ _ (record { two = omega arith; cr = omega arith; lf = omega arith }) refl c.loop-rest.invariant (sym c.close_line.ensures ∙ c.in_ok-list.was) c.fresh_line-in-13.ensures
 
-pub overflow_add-i : goal.overflow_add-i
-overflow_add-i c =
-    omega (arith, pair_inside c.args.input.now _ (sym c.is_pair.ensures ∙ c.if-is_pair.true))
-
-pub loop-i-smaller-then-is_pair : goal.loop-i-smaller-then-is_pair
-loop-i-smaller-then-is_pair c = omega arith
-
-pub loop-i-preserved-then-is_pair : goal.loop-i-preserved-then-is_pair
-loop-i-preserved-then-is_pair c =
-    line_ends _ _ _ _ c.loop-i-test.true c.loop-i.invariant _ _ (sym c.is_pair.ensures ∙ c.if-is_pair.true) c.close_line-next.ensures c.fresh_line-line-then-is_pair.ensures
-
-pub bounds-input-i : goal.bounds-input-i
-bounds-input-i c = omega arith
-
-pub overflow_add-i-in-loop-i : goal.overflow_add-i-in-loop-i
-overflow_add-i-in-loop-i c = omega arith
-
-pub loop-i-smaller : goal.loop-i-smaller
-loop-i-smaller c = omega arith
-
-pub loop-i-preserved : goal.loop-i-preserved
-loop-i-preserved c =
-    line_goes_on _ _ _ _ c.loop-i-test.true c.loop-i.invariant _ (sym c.is_pair.ensures ∙ c.if-is_pair.false) c.with_byte-longer.ensures
-
-pub at_end-requires : goal.at_end-requires
-at_end-requires c = omega arith
+pub loop-rest-preserved : goal.loop-rest-preserved
+loop-rest-preserved c = elim c.in_default-rest.branch [
+  | in_default-rest-via-then-rest-lt2 w ↦ line_goes_on _ _ (omega arith) (λ h. omega (arith, h.two, ltb-true)) c.loop-rest.invariant c.with_byte-line.ensures
+  | in_default-rest-via-else-rest-lt2+in-13+in_default-1 w ↦ line_goes_on _ _ (omega arith) (λ h. omega (arith, h.lf)) c.loop-rest.invariant c.with_byte-line.ensures
+  | in_default-rest-via-else-rest-lt2+in_default-1 w ↦ line_goes_on _ _ (omega arith) (λ h. omega (arith, h.cr)) c.loop-rest.invariant c.with_byte-line.ensures
+]
 
 pub returns : goal.returns
-returns c = no_byte_more _ _ _ _ _ c.loop-i-test.false c.loop-i.invariant c.at_end.ensures
+returns c = no_byte_more _ _ (omega arith) c.loop-rest.invariant c.at_end.ensures

@@ -11,36 +11,12 @@ returns-then-i-gt15 c = sym (choose_no _ _ _ (le-ltb c.args.i 16 (omega arith)))
 
 pub loop-j-init : goal.loop-j-init
 unfolding sum
-loop-j-init c = (omega arith, omega arith, omega arith, refl)
-
-pub offset_bounds-periods-j : goal.offset_bounds-periods-j
-offset_bounds-periods-j c = omega arith
-
-pub bounds-periods-j : goal.bounds-periods-j
-bounds-periods-j c = omega arith
-
-pub overflow_add-jobs : goal.overflow_add-jobs
-overflow_add-jobs c = omega (arith, c.times-jobs.ensures.1)
-
-pub overflow_add-j : goal.overflow_add-j
-overflow_add-j c = omega arith
-
-pub loop-j-smaller : goal.loop-j-smaller
-loop-j-smaller c = omega arith
+loop-j-init c = (omega arith, refl)
 
 pub loop-j-preserved : goal.loop-j-preserved
-loop-j-preserved c = (omega arith, omega arith, omega (arith, c.times-jobs.ensures.1), ap (λ x. c.loop-j.jobs + x) c.times-jobs.ensures.0 ∙ one_more_sum _ _ _ c.loop-j.invariant.3)
-
-pub offset_bounds-periods-i : goal.offset_bounds-periods-i
-offset_bounds-periods-i c = omega arith
-
-pub bounds-periods-i : goal.bounds-periods-i
-bounds-periods-i c = omega arith
-
-pub overflow_add-result : goal.overflow_add-result
-overflow_add-result c = omega (arith, c.times.ensures.1)
+loop-j-preserved c = (omega (arith, c.times-jobs.ensures.1), ap (λ x. c.loop-j.jobs + x) c.times-jobs.ensures.0 ∙ one_more_sum _ _ _ c.loop-j.invariant.1)
 
 pub returns : goal.returns
 unfolding place_in
 returns c = let end : c.loop-j.j ≡ c.args.i = omega arith in
-    ap₂ ◌+◌ (rw end at c.loop-j.invariant.3) c.times.ensures.0 ∙ sym (choose_yes _ _ _ (lt-ltb c.args.i 16 (omega arith)))
+    ap₂ ◌+◌ (rw end at c.loop-j.invariant.1) c.times.ensures.0 ∙ sym (choose_yes _ _ _ (lt-ltb c.args.i 16 (omega arith)))

@@ -1,15 +1,12 @@
 -- `run::who` meets its contract.
-use Rattle.run.proofs.Asking.{who_refused, who_idle, who_task}
+use Rattle.std.proofs.Common.{sym, ◌∙◌}
+use Rattle.std.proofs.lemmas.Result.{err_from_is_err_and}
+use Rattle.run.proofs.Asking.{who_refused, who_told}
 use Rattle.run.proofs.who.Goals as goal
 
-pub ask-asked-requires : goal.ask-asked-requires
-ask-asked-requires c = record { periods = _; runtimes = _; used = _; is = c.jobs_if_sound-jobs.ensures }
-
-pub returns-then-asked-ne0 : goal.returns-then-asked-ne0
-returns-then-asked-ne0 c = who_refused _ _ _ (c.ask-asked.ensures _ _ _ c.args.state.clock c.jobs_if_sound-jobs.ensures) c.if-asked-ne0.true
-
-pub returns-then-asked-eq0 : goal.returns-then-asked-eq0
-returns-then-asked-eq0 c = who_idle _ _ _ (c.ask-asked.ensures _ _ _ c.args.state.clock c.jobs_if_sound-jobs.ensures) c.if-asked-ne0.false c.if-asked-eq0.true
+pub returns-in_err-asked : goal.returns-in_err-asked
+returns-in_err-asked c = let p = err_from_is_err_and c.from_residual.result c.from_residual.ensures.1 in
+    rw (p.1, p.2) (who_refused _ _ _ (sym c.ask.ensures ∙ c.in_err-asked.was))
 
 pub returns : goal.returns
-returns c = who_task _ _ _ (c.ask-asked.ensures _ _ _ c.args.state.clock c.jobs_if_sound-jobs.ensures) c.if-asked-ne0.false c.if-asked-eq0.false
+returns c = who_told _ _ _ (sym c.ask.ensures ∙ c.in_ok-asked.was)

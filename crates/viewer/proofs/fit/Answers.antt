@@ -1,5 +1,6 @@
 -- `viewer::fit` meets its contract.
-use Rattle.basis.specs.Choose.{cases}
+use Rattle.basis.specs.Choose.{choose, cases}
+use Rattle.explain.specs.Seen.{refused_by, run_refusal}
 use Rattle.viewer.specs.Shapes.{fitting}
 use Rattle.viewer.proofs.fit.Goals as goal
 
@@ -8,5 +9,5 @@ unfolding fitting
 returns-then-length-room c = search cases depth 12
 
 pub returns-else-length-room : goal.returns-else-length-room
-unfolding fitting
+unfolding fitting refused_by run_refusal choose
 returns-else-length-room c = search cases depth 12

@@ -5,16 +5,13 @@ use Rattle.viewer.proofs.Ways.{found_run, found_bad, fits_aside, reads_run, read
 use Rattle.viewer.proofs.read.Goals as goal
 
 pub slice_bounds-run-end : goal.slice_bounds-run-end
-slice_bounds-run-end c = fits_aside _ _ _ (found_run _ _ _ _ _ c.read.ensures c.in-Run.is)
+slice_bounds-run-end c = fits_aside _ _ _ (found_run _ _ _ _ c.read.ensures _ c.in-Ok.is)
 
 pub slice_bounds-give-end : goal.slice_bounds-give-end
-slice_bounds-give-end c =
-    sym (length-take-le _ _ (fits_aside _ _ _ (found_run _ _ _ _ _ c.read.ensures c.in-Run.is)))
+slice_bounds-give-end c = sym (length-take-le _ _ (fits_aside _ _ _ (found_run _ _ _ _ c.read.ensures _ c.in-Ok.is)))
 
-pub returns-in-Bad : goal.returns-in-Bad
-returns-in-Bad c =
-    reads_formless _ _ _ _ _ _ _ _ (found_bad _ _ _ _ _ c.read.ensures c.in-Bad.is) c.no_form.ensures
+pub returns-in-Err : goal.returns-in-Err
+returns-in-Err c = reads_formless _ _ _ _ _ _ _ _ (found_bad _ _ _ _ c.read.ensures _ c.in-Err.is) c.no_form.ensures
 
-pub returns-in-Run : goal.returns-in-Run
-returns-in-Run c =
-    reads_run _ _ _ (found_run _ _ _ _ _ c.read.ensures c.in-Run.is) _ _ _ _ _ c.give.ensures
+pub returns-in-Ok : goal.returns-in-Ok
+returns-in-Ok c = reads_run _ _ _ (found_run _ _ _ _ c.read.ensures _ c.in-Ok.is) _ _ _ _ _ c.give.ensures

@@ -1,7 +1,6 @@
 -- `explain::candidate::give` meets its contract: the needs of the first i tasks are given.
-use mathlib.Core.Path.{◌≡◌, refl, ◌∙◌}
-use native.Mathlib.Omega.{arith}
-use native.Mathlib.Numerals.{add-one}
+use Rattle.std.proofs.Common.{◌≡◌, refl, ◌∙◌, arith}
+use Rattle.std.proofs.Math.Numerals.{add-one}
 use Rattle.basis.specs.Sum.{sum}
 use Rattle.tasks.specs.List.{task_at, no_task, plan_of}
 use Rattle.tasks.specs.Bounds.{job_sum}
@@ -10,52 +9,26 @@ use Rattle.explain.proofs.candidate.give.Goals as goal
 
 pub loop-i-init : goal.loop-i-init
 unfolding job_sum sum
-loop-i-init c = (omega arith, refl, refl, given_none _ _ _)
-
-pub offset_bounds-tasks-i : goal.offset_bounds-tasks-i
-offset_bounds-tasks-i c = omega (arith, c.requires.0.bounded.keeps.few, c.loop-i-test.true)
-
-pub bounds-tasks-i : goal.bounds-tasks-i
-bounds-tasks-i c = omega (arith, c.requires.0.bounded.keeps.few, c.loop-i-test.true)
+loop-i-init c = (refl, refl, given_none _ _ _)
 
 pub nonzero_div-jobs : goal.nonzero_div-jobs
 unfolding task_at no_task plan_of
 nonzero_div-jobs c = omega (arith, period_some _ _ _ c.requires.0 c.loop-i.i c.loop-i-test.true)
 
-pub overflow_cast-jobs : goal.overflow_cast-jobs
-unfolding task_at no_task plan_of
-overflow_cast-jobs c = omega (arith, room_for _ _ _ c.requires.0 c.loop-i.i c.loop-i-test.true _ _ c.loop-i.invariant.1 c.requires.1)
-
-pub overflow_cast-period : goal.overflow_cast-period
-unfolding task_at no_task plan_of
-overflow_cast-period c = omega (arith, period_most _ _ _ c.requires.0 c.loop-i.i c.loop-i-test.true)
-
-pub overflow_add-i : goal.overflow_add-i
-overflow_add-i c = omega (arith, c.requires.0.bounded.keeps.few, c.loop-i-test.true)
-
-pub overflow_cast-i : goal.overflow_cast-i
-overflow_cast-i c = omega (arith, c.requires.0.bounded.keeps.few, c.loop-i-test.true)
-
 pub give_task-requires : goal.give_task-requires
 unfolding task_at no_task plan_of
-give_task-requires c = (period_most _ _ _ c.requires.0 c.loop-i.i c.loop-i-test.true, windows_in _ _ _ c.requires.0 c.loop-i.i c.loop-i-test.true, room_for _ _ _ c.requires.0 c.loop-i.i c.loop-i-test.true _ _ c.loop-i.invariant.1 (omega (arith, c.requires.1, c.loop-i.invariant.2)))
+give_task-requires c = (period_most _ _ _ c.requires.0 c.loop-i.i c.loop-i-test.true, windows_in _ _ _ c.requires.0 c.loop-i.i c.loop-i-test.true, room_for _ _ _ c.requires.0 c.loop-i.i c.loop-i-test.true _ _ c.loop-i.invariant.0 (omega (arith, c.requires.1, c.loop-i.invariant.1)))
 
 pub overflow_add-from : goal.overflow_add-from
 unfolding task_at no_task plan_of
-overflow_add-from c = omega (arith, room_for _ _ _ c.requires.0 c.loop-i.i c.loop-i-test.true _ _ c.loop-i.invariant.1 c.requires.1)
-
-pub overflow_add-i-in-loop-i : goal.overflow_add-i-in-loop-i
-overflow_add-i-in-loop-i c = omega (arith, c.requires.0.bounded.keeps.few, c.loop-i-test.true)
-
-pub loop-i-smaller : goal.loop-i-smaller
-loop-i-smaller c = omega (arith, c.requires.0.bounded.keeps.few, c.loop-i-test.true)
+overflow_add-from c = omega (arith, room_for _ _ _ c.requires.0 c.loop-i.i c.loop-i-test.true _ _ c.loop-i.invariant.0 c.requires.1)
 
 pub loop-i-preserved : goal.loop-i-preserved
 unfolding task_at no_task plan_of
-loop-i-preserved c = let laid = given_is c.args.list c.args.run.now c.loop-i.i _ _ _ _ _ refl (c.give_task.ensures c.loop-i.i (add-one _)) in (omega arith, from_next _ _ _ _ c.loop-i.invariant.1 (jobs_are _ _ _ c.requires.0 c.loop-i.i c.loop-i-test.true), laid.long ∙ c.loop-i.invariant.2, given_more _ _ _ _ c.loop-i.invariant.1 (jobs_are _ _ _ c.requires.0 c.loop-i.i c.loop-i-test.true) _ _ _ _ c.loop-i.invariant.3 laid)
-
-pub shape_of-needs : goal.shape_of-needs
-shape_of-needs c = c.loop-i.invariant.2
+loop-i-preserved c =
+    let laid = given_is c.args.list c.args.run.now c.loop-i.i _ _ _ _ _ refl (c.give_task.ensures c.loop-i.i (add-one _)) in
+    let jobs = jobs_are _ _ _ c.requires.0 c.loop-i.i c.loop-i-test.true in
+    (from_next _ _ _ _ c.loop-i.invariant.0 jobs, laid.long ∙ c.loop-i.invariant.1, given_more _ _ _ _ c.loop-i.invariant.0 jobs _ _ _ _ c.loop-i.invariant.2 laid)
 
 pub returns : goal.returns
-returns c = let end : c.loop-i.i ≡ c.args.list.count = omega arith in given_all _ _ _ _ (rw end at c.loop-i.invariant.3)
+returns c = let end : c.loop-i.i ≡ c.args.list.count = omega arith in given_all _ _ _ _ (rw end at c.loop-i.invariant.2)

@@ -1,7 +1,5 @@
 -- `explain::candidate::give` meets its contract: the needs of the first i tasks are given.
-use Prim.Native.Nat.{◌≤◌, ◌-◌}
-use mathlib.Core.Path.{◌≡◌}
-use lib.ListN.{length}
+use Rattle.std.proofs.Common.{◌≡◌, length}
 use Rattle.needs.specs.Explained.{given_in}
 use Rattle.tasks.specs.List.{plan_of}
 use Rattle.tasks.specs.Bounds.{cycle_of, job_sum}
@@ -9,7 +7,4 @@ use Rattle.explain.proofs.Giving.{GivenTo}
 use Rattle.explain.proofs.candidate.give.Given as goal
 
 abbrev pub invariant-loop-i : goal.invariant-loop-i
-invariant-loop-i l = (l.i ≤ l.list.count) × (l.from ≡ job_sum l.list.tasks (cycle_of l.list) l.i) × (length l.needs ≡ length l.initial.needs) × GivenTo l.list (given_in (plan_of l.list) l.run) l.i l.initial.needs l.needs
-
-abbrev pub decreases-loop-i : goal.decreases-loop-i
-decreases-loop-i l = l.list.count - l.i
+invariant-loop-i l = (l.from ≡ job_sum l.list.tasks (cycle_of l.list) l.i) × (length l.needs ≡ length l.initial.needs) × GivenTo l.list (given_in (plan_of l.list) l.run) l.i l.initial.needs l.needs

@@ -1,7 +1,5 @@
 -- `explain::candidate::give_task` meets its contract: the needs of the first k jobs are laid.
-use Prim.Native.Nat.{ℕ, suc, ◌+◌, ◌*◌, ◌≤◌, ◌-◌}
-use mathlib.Core.Path.{◌≡◌}
-use lib.ListN.{length}
+use Rattle.std.proofs.Common.{◌≡◌, ◌+◌, ◌*◌, ℕ, suc, length}
 use Rattle.basis.specs.Bytes.{at}
 use Rattle.basis.specs.Sum.{sum}
 use Rattle.plan.specs.Plan.{gets}
@@ -9,7 +7,4 @@ use Rattle.explain.specs.Shapes.{Laid}
 use Rattle.explain.proofs.candidate.give_task.Given as goal
 
 abbrev pub invariant-loop-k : goal.invariant-loop-k
-invariant-loop-k l = (l.k ≤ l.jobs) × (l.start ≡ l.k * l.period) × (length l.needs ≡ length l.initial.needs) × ((i : ℕ) → l.entry ≡ suc i → Laid (λ j. sum (λ n. gets (at l.run (j * l.period + n)) i) l.period) l.from l.k l.initial.needs l.needs)
-
-abbrev pub decreases-loop-k : goal.decreases-loop-k
-decreases-loop-k l = l.jobs - l.k
+invariant-loop-k l = (length l.needs ≡ length l.initial.needs) × ((i : ℕ) → l.entry ≡ suc i → Laid (λ j. sum (λ n. gets (at l.run (j * l.period + n)) i) l.period) l.from l.k l.initial.needs l.needs)

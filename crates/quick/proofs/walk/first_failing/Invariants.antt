@@ -1,10 +1,6 @@
 -- `quick::walk::first_failing` meets its contract: the tasks before place k pass.
-use Prim.Native.Nat.{◌-◌}
 use Rattle.quick.proofs.Walking.{Trying}
 use Rattle.quick.proofs.walk.first_failing.Given as goal
 
 abbrev pub invariant-loop-k : goal.invariant-loop-k
-invariant-loop-k l = Trying l.periods l.dues l.runtimes l.count l.k l.inverses (record { point = l.point; asked = l.asked })
-
-abbrev pub decreases-loop-k : goal.decreases-loop-k
-decreases-loop-k l = l.count - l.k
+invariant-loop-k l = Trying l.ranked.periods l.ranked.dues l.ranked.runtimes l.count l.k l.inverses (record { point = l.point; asked = l.asked })

@@ -3,8 +3,8 @@ use Prim.Native.Nat.{◌-◌}
 use Rattle.quick.specs.Shapes.{Walks}
 use Rattle.quick.proofs.walk.walk_on.Given as goal
 
-abbrev pub invariant-loop-point : goal.invariant-loop-point
-invariant-loop-point l = Walks l.periods l.runtimes l.n l.due (record { point = l.point; asked = l.asked })
+abbrev pub invariant-loop-walk : goal.invariant-loop-walk
+invariant-loop-walk l = Walks l.ranked.periods l.ranked.runtimes l.n l.due l.walk
 
-abbrev pub decreases-loop-point : goal.decreases-loop-point
-decreases-loop-point l = l.due - l.point
+abbrev pub decreases-loop-walk : goal.decreases-loop-walk
+decreases-loop-walk l = l.due - l.walk.point

@@ -3,7 +3,4 @@ use Rattle.readback.proofs.Whole.{value_whole}
 use Rattle.readback.proofs.lines.value_at.Goals as goal
 
 pub returns-then-entry-before : goal.returns-then-entry-before
-returns-then-entry-before c = value_whole _ _ _ _ c.if-entry-le16.true c.if-entry-before.true c.whole_value-entry.ensures
-
-pub returns : goal.returns
-returns c = c.value_begun.ensures
+returns-then-entry-before c = value_whole _ _ _ _ c.if-entry-le16.true c.if-entry-before.true c.in-Some.ensures

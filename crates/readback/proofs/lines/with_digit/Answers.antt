@@ -1,9 +1,8 @@
 -- `readback::lines::with_digit` meets its contract.
-use Rattle.std.proofs.Common.{mul-le-mul, arith}
+use Rattle.std.proofs.Common.{arith}
+use Rattle.readback.proofs.Steps.{digit_from}
 use Rattle.readback.proofs.lines.with_digit.Goals as goal
 
-pub overflow_mul-number : goal.overflow_mul-number
-overflow_mul-number c = omega (arith, mul-le-mul c.requires.3 c.requires.1)
-
-pub overflow_add-number : goal.overflow_add-number
-overflow_add-number c = omega (arith, mul-le-mul c.requires.3 c.requires.1)
+pub returns : goal.returns
+returns c =
+    digit_from _ _ _ _ _ c.longer.result c.in_ok-front.was c.ok_or.ensures.value (c.in-Some.ensures.lookup.4 (omega arith) 256) c.longer.ensures

@@ -1,21 +1,28 @@
 -- `run::ask::ask` meets its contract.
-use Rattle.run.proofs.Asking.{asked_unsound, asked_over, asked_by_table, asked_filling, few_tasks, in_cycle}
+use Rattle.std.proofs.Common.{sym, ◌∙◌}
+use Rattle.std.proofs.lemmas.Result.{err_from_is_err_and}
+use Rattle.run.proofs.Asking.{counted, asked_unsound, asked_over, asked_filling, asked_read, asked_unread, facts_by, before_end}
 use Rattle.run.proofs.ask.ask.Goals as goal
 
-pub returns-then-jobs-eq0 : goal.returns-then-jobs-eq0
-returns-then-jobs-eq0 c = λ periods runtimes used clock e. rw c.refusal.ensures (asked_unsound _ _ _ e c.if-jobs-eq0.true)
+pub returns-in_err-jobs : goal.returns-in_err-jobs
+returns-in_err-jobs c = let p = err_from_is_err_and c.from_residual.result c.from_residual.ensures.1 in
+    rw (p.1, p.2) (asked_unsound _ _ _ _ c.jobs_if_sound.ensures (sym c.ok_or.ensures.value ∙ c.in_err-jobs.was))
 
-pub returns-then-position-cycle : goal.returns-then-position-cycle
-returns-then-position-cycle c = λ periods runtimes used clock e. rw c.refusal-then-position-cycle.ensures (asked_over _ _ _ e c.if-jobs-eq0.false c.if-position-cycle.true)
+pub returns-then-state : goal.returns-then-state
+returns-then-state c = asked_over _ _ _ (counted _ _ _ c.jobs_if_sound.ensures (sym c.ok_or.ensures.value ∙ c.in_ok-jobs.was)) c.if-state.true
 
 pub by_table-requires : goal.by_table-requires
-by_table-requires c = (few_tasks _ _ _ _ _ _ _ _ _ c.requires.is c.if-jobs-eq0.false, in_cycle _ _ _ _ _ _ _ _ _ c.requires.is c.if-jobs-eq0.false c.if-position-cycle.false)
+by_table-requires c = let e = counted _ _ _ c.jobs_if_sound.ensures (sym c.ok_or.ensures.value ∙ c.in_ok-jobs.was) in ((facts_by _ _ e).count_within, before_end _ _ e c.if-state.false)
 
-pub first_open-requires : goal.first_open-requires
-first_open-requires c = few_tasks _ _ _ _ _ _ _ _ _ c.requires.is c.if-jobs-eq0.false
+pub returns-in_err-ran-in-Table : goal.returns-in_err-ran-in-Table
+returns-in_err-ran-in-Table c = let p = err_from_is_err_and c.from_residual-in_err-ran-in-Table.result c.from_residual-in_err-ran-in-Table.ensures.1 in
+    rw (p.1, p.2) (asked_unread _ _ _ (counted _ _ _ c.jobs_if_sound.ensures (sym c.ok_or.ensures.value ∙ c.in_ok-jobs.was)) c.if-state.false c.in-Table.is _ (sym c.in_err-ran-in-Table.was ∙ c.by_table.ensures))
 
-pub returns-in-Table : goal.returns-in-Table
-returns-in-Table c = λ periods runtimes used clock e. asked_by_table _ _ _ e c.if-jobs-eq0.false c.if-position-cycle.false c.in-Table.is _ c.by_table.ensures
+pub first_open-ran-requires : goal.first_open-ran-requires
+first_open-ran-requires c = (facts_by _ _ (counted _ _ _ c.jobs_if_sound.ensures (sym c.ok_or.ensures.value ∙ c.in_ok-jobs.was))).count_within
+
+pub returns-in_ok-ran-in-Table : goal.returns-in_ok-ran-in-Table
+returns-in_ok-ran-in-Table c = asked_read _ _ _ (counted _ _ _ c.jobs_if_sound.ensures (sym c.ok_or.ensures.value ∙ c.in_ok-jobs.was)) c.if-state.false c.in-Table.is _ (sym c.in_ok-ran-in-Table.was ∙ c.by_table.ensures)
 
 pub returns-in-Filling : goal.returns-in-Filling
-returns-in-Filling c = λ periods runtimes used clock e. asked_filling _ _ _ e c.if-jobs-eq0.false c.if-position-cycle.false _ c.in-Filling.is c.first_open.ensures
+returns-in-Filling c = asked_filling _ _ _ (counted _ _ _ c.jobs_if_sound.ensures (sym c.ok_or.ensures.value ∙ c.in_ok-jobs.was)) c.if-state.false _ c.in-Filling.is c.first_open-ran.ensures

@@ -1,10 +1,7 @@
--- `verdict::walk::fill` meets its contract: the slices before s are written.
-use Rattle.std.proofs.Common.{◌-◌, ◌≤◌}
-use Rattle.verdict.specs.Shapes.{Filled}
+-- `verdict::walk::fill` meets its contract: the slices of the turn so far hold the entry.
+use Rattle.std.proofs.Common.{◌≡◌, ℕ, ◌<◌}
+use Rattle.basis.specs.Bytes.{at}
 use Rattle.verdict.proofs.walk.fill.Given as goal
 
-abbrev pub invariant-loop-s : goal.invariant-loop-s
-invariant-loop-s l = (l.from ≤ l.s) × (l.s ≤ l.to) × Filled l.initial.entries l.from l.s l.entry l.entries
-
-abbrev pub decreases-loop-s : goal.decreases-loop-s
-decreases-loop-s l = l.to - l.s
+abbrev pub invariant-loop-held : goal.invariant-loop-held
+invariant-loop-held l = (k : ℕ) → k < l.held-index → at l.turn k ≡ l.entry

@@ -6,7 +6,7 @@ use Rattle.verdict.proofs.Cycle.{At}
 use Rattle.verdict.proofs.walk.simulate.Given as goal
 
 abbrev pub invariant-loop-t : goal.invariant-loop-t
-invariant-loop-t l = (length l.entries ≡ length l.initial.entries) × ((S : Shown l.count l.cycle l.order l.periods l.dues l.runtimes) → At (plan_of S.list) l.order (length l.initial.entries) l.cycle l.t l.next l.lacks l.releases l.events l.ends l.entries)
+invariant-loop-t l = (length l.entries ≡ length l.initial.entries) × ((S : Shown l.count l.cycle l.ranked) → At (plan_of S.list) l.ranked.order (length l.initial.entries) l.cycle l.t l.next l.jobs.lacks l.jobs.releases l.jobs.events l.jobs.ends l.entries)
 
 abbrev pub decreases-loop-t : goal.decreases-loop-t
 decreases-loop-t l = l.cycle - l.t

@@ -1,9 +1,0 @@
--- `drives::words_agree` is safe and ends.
-use Rattle.std.proofs.Common.{◌-◌, length}
-use Rattle.agree.proofs.drives.words_agree.Given as goal
-
-abbrev pub invariant-loop-i : goal.invariant-loop-i
-invariant-loop-i l = Unit {0}
-
-abbrev pub decreases-loop-i : goal.decreases-loop-i
-decreases-loop-i l = length l.found - l.i

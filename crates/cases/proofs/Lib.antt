@@ -1,2 +1,0 @@
--- Laws that the proofs on answers cite.
-pub mod Answers

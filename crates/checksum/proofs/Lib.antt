@@ -1,0 +1,2 @@
+-- The bytes of the numbers that are summed.
+pub mod Words
