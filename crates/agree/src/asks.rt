@@ -1,13 +1,14 @@
 // Records of the quick question, and the same question beside a verdict.
 use crate::Replay;
 use cases::Answer;
-use tasks::{Refusal, TaskList};
+use quick::Refused;
+use tasks::TaskList;
 
 // The quick question names a refusal and its task, and no other number.
-fn answer_of(answer: Result<(), Refusal>) -> Answer {
+fn answer_of(answer: Result<(), Refused>) -> Answer {
     match answer {
         Ok(()) => Answer::default(),
-        Err(refusal) => named(refusal.number(), refusal.task()),
+        Err(refused) => named(refused.number, refused.task),
     }
 }
 

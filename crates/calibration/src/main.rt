@@ -2,6 +2,7 @@
 #![tactic(auto)]
 
 use bench::{SLICE, TICK};
+use run::Mode;
 use std::io;
 
 // In slices; the needs stand as the log does.
@@ -28,5 +29,5 @@ fn main(rt: HostRuntime) -> io::Result<()> {
         bench::task_in(6000, 350, 64, 6000, SLICE, TICK),
         bench::task_in(60000, 2700, 4096, 60000, SLICE, TICK),
     ];
-    sheet::drive_and_print(&rt, b"calibration", &list, &NEEDS)
+    sheet::drive_and_print(&rt, b"calibration", &list, Some(Mode::Table), &NEEDS)
 }

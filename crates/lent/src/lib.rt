@@ -9,9 +9,10 @@ ghost use Rattle.verdict.specs.Verdict.{verdict_of};
 ghost use Rattle.verdict.specs.Table.{Built};
 ghost use Rattle.start.specs.Start.{Begins};
 
+use quick::Refused;
 use run::Mode;
 use start::Started;
-use tasks::{Refusal, Task, TaskList};
+use tasks::{Task, TaskList};
 use verdict::Verdict;
 
 // The first 16 records, by value, and how many there are.
@@ -40,7 +41,7 @@ pub fn judge_lent(tasks: &[Task], supply: u32) -> Verdict
 }
 
 // The quick question on a lent list.
-pub fn ask_lent(tasks: &[Task], supply: u32) -> Result<(), Refusal>
+pub fn ask_lent(tasks: &[Task], supply: u32) -> Result<(), Refused>
     ensures { result ≡ quick_of (list_of tasks.now) supply }
 {
     quick::ask(copied(tasks), supply)
@@ -78,7 +79,7 @@ pub fn judge_list(list: TaskList, supply: u32) -> Verdict
 }
 
 // The quick question on a list by value, whose records are lent for it.
-pub fn ask_list(list: TaskList, supply: u32) -> Result<(), Refusal>
+pub fn ask_list(list: TaskList, supply: u32) -> Result<(), Refused>
     ensures { result ≡ quick_of list supply }
 {
     match list.tasks.get(..list.count) {

@@ -2,6 +2,7 @@
 #![tactic(auto)]
 
 use bench::{SLICE, TICK};
+use run::Mode;
 use std::io;
 
 // In slices; the needs stand as the log does.
@@ -28,5 +29,5 @@ fn main(rt: HostRuntime) -> io::Result<()> {
         bench::task_in(5000, 350, 64, 5000, SLICE, TICK),
         bench::task_in(80000, 5800, 8192, 80000, SLICE, TICK),
     ];
-    sheet::drive_and_print(&rt, b"night", &list, &NEEDS)
+    sheet::drive_and_print(&rt, b"night", &list, Some(Mode::Table), &NEEDS)
 }

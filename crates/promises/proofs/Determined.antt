@@ -20,6 +20,7 @@ use Rattle.tasks.specs.Euclid.{lcm_of}
 use Rattle.tasks.specs.Bounds.{bounds_of, cycle_of, job_sum, jobs_of}
 use Rattle.ranking.specs.declared.Ranked.{Ranked}
 use Rattle.ranking.specs.Ranks.{Ranks}
+use Rattle.quick.specs.declared.Refused.{Refused}
 use Rattle.quick.specs.Quick.{quick_of}
 use Rattle.verdict.specs.Verdict.{Verdict, verdict_of}
 use Rattle.verdict.specs.Answers.{OnTimeAll}
@@ -140,10 +141,10 @@ by_rank l old ranked ranked' R R' =
     arrays_same o p d r = λ k. record { order = o k; periods = p k; dues = d k; runtimes = r k }
 
 -- quick: ask; lent: ask_list; and over the lent list, ask_lent
-pub ask : (l : TaskList) (supply : ℕ) (r r' : Result (Unit {0}) Refusal) → r ≡ quick_of l supply → r' ≡ quick_of l supply → r ≡ r'
+pub ask : (l : TaskList) (supply : ℕ) (r r' : Result (Unit {0}) Refused) → r ≡ quick_of l supply → r' ≡ quick_of l supply → r ≡ r'
 ask l supply r r' e e' = one_answer e e'
 
-pub ask_lent : (ts : List Task) (supply : ℕ) (r r' : Result (Unit {0}) Refusal) → r ≡ quick_of (list_of ts) supply → r' ≡ quick_of (list_of ts) supply → r ≡ r'
+pub ask_lent : (ts : List Task) (supply : ℕ) (r r' : Result (Unit {0}) Refused) → r ≡ quick_of (list_of ts) supply → r' ≡ quick_of (list_of ts) supply → r ≡ r'
 ask_lent ts supply r r' e e' = one_answer e e'
 
 -- verdict: judge; lent: judge_list

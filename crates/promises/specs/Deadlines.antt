@@ -8,10 +8,10 @@ use Rattle.basis.specs.Answer.{Answer, refusal, none, ◌or_else◌, first_found
 use Rattle.plan.specs.Plan.{Plan, table}
 use Rattle.plan.specs.Points.{first_without}
 use Rattle.tasks.specs.declared.TaskList.{TaskList}
-use Rattle.tasks.specs.declared.refusals.Refusal.{Refusal}
 use Rattle.tasks.specs.List.{task_at, plan_of}
 use Rattle.tasks.specs.Refusal.{refusal_answer, bound_refusal}
 use Rattle.tasks.specs.Bounds.{of_count, of_memory, of_cycle, cycle_of, jobs_of}
+use Rattle.quick.specs.declared.Refused.{Refused}
 use Rattle.quick.specs.Quick.{tried, quick_of}
 use Rattle.verdict.specs.declared.Accepted.{Accepted}
 use Rattle.verdict.specs.Lateness.{lateness}
@@ -54,11 +54,11 @@ verdict_before l supply =
     (judged (rate_monotonic l) (cycle_of l) (jobs_of l) (lateness (rate_monotonic l) (cycle_of l)))
     (Err (bound_refusal (found_before l supply)))
 
-unfoldable pub quick_before : TaskList → ℕ → Result (Unit {0}) Refusal
+unfoldable pub quick_before : TaskList → ℕ → Result (Unit {0}) Refused
 quick_before l supply =
     choose (eqb (found_before l supply).number 0)
     (tried (first_without (rate_monotonic l)))
-    (Err (bound_refusal (found_before l supply)))
+    (Err (record { number = (found_before l supply).number; task = (found_before l supply).task }))
 
 -- A state is sound: each period from 1 to 4,096 and dividing the cycle; each run-time from 1 to its period; slices used at most the
 -- run-time, and below it unless the job has ended.

@@ -1,7 +1,7 @@
 -- Lists and states whose deadlines are the periods are as they were.
-use Rattle.std.specs.Prelude.{◌≡◌, true, false, not, ◌||◌, List, ◌↔◌, ℕ, suc, ◌≤◌, ◌<◌, Ok, Err}
+use Rattle.std.specs.Prelude.{◌≡◌, true, false, not, ◌||◌, List, ◌↔◌, ℕ, suc, ◌≤◌, ◌<◌, Result, Ok, Err}
 use Rattle.std.proofs.Math.Path.{sym, ap, subst}
-use Rattle.std.proofs.Common.{◌∙◌, arith}
+use Rattle.std.proofs.Common.{◌∙◌, true≢false, eq-eqb, arith}
 use Rattle.std.proofs.Math.Bool.{or-false}
 use Rattle.std.proofs.Math.Logic.{⊎_elim}
 use Rattle.std.proofs.Math.Nat.{mod-lt}
@@ -16,7 +16,8 @@ use Rattle.tasks.specs.declared.TaskList.{TaskList}
 use Rattle.tasks.specs.List.{task_at, plan_of}
 use Rattle.tasks.specs.Refusal.{bound_refusal, unless_broken}
 use Rattle.tasks.specs.Bounds.{of_count, of_numbers, of_task, of_memory, of_cycle, found, answer, bounds_of, cycle_of, jobs_of}
-use Rattle.quick.specs.Quick.{tried, quick_from, quick_of}
+use Rattle.quick.specs.declared.Refused.{Refused}
+use Rattle.quick.specs.Quick.{named, tried, quick_from, quick_of}
 use Rattle.tasks.proofs.Kept.{Said, found_said}
 use Rattle.verdict.specs.declared.Accepted.{Accepted}
 use Rattle.verdict.specs.Lateness.{lateness}
@@ -79,11 +80,21 @@ module _ (l : TaskList) (at : AtPeriods l) where
       ap (verdict_from l) (bounds_as_before supply) ∙ of_choice (verdict_from l) (eqb (found_before l supply).number 0) _ _
       ∙ ap (λ (P : Plan). choose (eqb (found_before l supply).number 0) (judged P (cycle_of l) (jobs_of l) (lateness P (cycle_of l))) (Err (bound_refusal (found_before l supply)))) plan_as_before
 
+  -- where something is found, its number and task are named
+  named_as_before : (f : Answer) → Said f → (passed : Result (Unit {0}) Refused) → choose (eqb f.number 0) passed (Err (named (bound_refusal f))) ≡ choose (eqb f.number 0) passed (Err (record { number = f.number; task = f.task }))
+  unfolding named
+  named_as_before f said passed =
+      ⊎_elim
+      (λ (t : eqb f.number 0 ≡ true). choose_yes _ _ _ t ∙ sym (choose_yes _ _ _ t))
+      (λ (n : eqb f.number 0 ≡ false). ap (λ (a : Answer). choose (eqb f.number 0) passed (Err (record { number = a.number; task = a.task }))) (said (λ z. true≢false (sym (eq-eqb _ _ z) ∙ n))))
+      (bool_cases (eqb f.number 0))
+
   quick_as_before : (supply : ℕ) → quick_of l supply ≡ quick_before l supply
   unfolding quick_of quick_from quick_before answer unless_broken
   quick_as_before supply =
       ap (quick_from l) (bounds_as_before supply) ∙ of_choice (quick_from l) (eqb (found_before l supply).number 0) _ _
-      ∙ ap (λ (P : Plan). choose (eqb (found_before l supply).number 0) (tried (first_without P)) (Err (bound_refusal (found_before l supply)))) plan_as_before
+      ∙ ap (λ (P : Plan). choose (eqb (found_before l supply).number 0) (tried (first_without P)) (Err (named (bound_refusal (found_before l supply))))) plan_as_before
+      ∙ named_as_before (found_before l supply) (said_as_before supply) (tried (first_without (rate_monotonic l)))
 
   table_as_before : (supply : ℕ) (old new : List ℕ) (a : Accepted) → Built l supply old new (Ok a) → new ≡ overwrite (table (rate_monotonic l)) a.cycle old
   unfolding tabled

@@ -28,7 +28,8 @@ use Rattle.tasks.proofs.Kept.{plan_sound, kept_tells, broken_tells}
 use Rattle.verdict.specs.Verdict.{Verdict, verdict_from, verdict_of, verdict_answer}
 use Rattle.verdict.specs.Answers.{ByBounds, ForLateness, OnTimeAll}
 use Rattle.verdict.proofs.Told.{verdict_tells}
-use Rattle.quick.specs.Quick.{tried, tried_none, tried_late, quick_from, quick_of, quick_answer}
+use Rattle.quick.specs.declared.Refused.{Refused}
+use Rattle.quick.specs.Quick.{named, tried, tried_none, tried_late, quick_from, quick_of, quick_answer}
 use Rattle.records.specs.Grammar.{Read, Reads}
 use Rattle.records.proofs.Reading.{reads_only}
 use Rattle.printing.specs.Text.{table_text}
@@ -60,7 +61,7 @@ module _ (l : TaskList) (supply : ℕ) (K : KeepsBounds l supply) where
       (verdict_tells l supply)
 
   same_kept : (e : ℕ) → first_without P ≡ e → Same (quick_answer (tried e)) (judged_as l supply)
-  unfolding quick_answer refusal_answer none refusal
+  unfolding quick_answer refusal_answer named none refusal
   same_kept zero z =
       rw tried_none
       (record { number = sym ((accepted_exactly l supply K).1 (none_found_pass P (plan_sound l supply K) z)); task = λ nz. absurd (nz refl); none_named = λ _. refl })
@@ -76,9 +77,9 @@ module _ (l : TaskList) (supply : ℕ) (K : KeepsBounds l supply) where
 
 module _ (l : TaskList) (supply : ℕ) where
   same_from : (b : Result InBounds Refusal) → bounds_of l supply ≡ b → Same (asked_as l supply) (judged_as l supply)
-  unfolding quick_of quick_from quick_answer verdict_of verdict_from verdict_answer refusal
+  unfolding quick_of quick_from named quick_answer verdict_of verdict_from verdict_answer refusal
   same_from (Ok k) e =
-      subst (λ (q : Result (Unit {0}) Refusal). Same (quick_answer q) (judged_as l supply)) (sym (ap (quick_from l) e))
+      subst (λ (q : Result (Unit {0}) Refused). Same (quick_answer q) (judged_as l supply)) (sym (ap (quick_from l) e))
       (same_kept l supply (kept_tells l supply k e).keeps (first_without (plan_of l)) refl)
   same_from (Err r) e = record {
     number = ap (λ (b : Result InBounds Refusal). (quick_answer (quick_from l b)).number) e ∙ sym (ap (λ (b : Result InBounds Refusal). (verdict_answer (verdict_from l b)).number) e);
@@ -93,7 +94,7 @@ module _ (l : TaskList) (supply : ℕ) where
   unfolding quick_answer none refusal
   no_more = plain (quick_of l supply)
     where
-      plain : (q : Result (Unit {0}) Refusal) → quick_answer q ≡ refusal (quick_answer q).number (quick_answer q).task
+      plain : (q : Result (Unit {0}) Refused) → quick_answer q ≡ refusal (quick_answer q).number (quick_answer q).task
       plain (Ok done) = refl
       plain (Err r) = refl
 

@@ -27,7 +27,8 @@ use Rattle.tasks.specs.Kept.{Bounded}
 use Rattle.tasks.proofs.Kept.{plan_sound, plan_monotonic, cycle_pos, period_divides_cycle, kept_tells}
 use Rattle.ranking.specs.declared.Ranked.{Ranked}
 use Rattle.ranking.specs.Ranks.{Ranks, Shows, ranked_shows}
-use Rattle.quick.specs.Quick.{tried, tried_none, tried_late, quick_from, quick_of}
+use Rattle.quick.specs.declared.Refused.{Refused}
+use Rattle.quick.specs.Quick.{named, tried, tried_none, tried_late, quick_from, quick_of}
 use Rattle.quick.specs.Shapes.{level_asks, Level, NonePasses, SomePasses, ComesRound, AllPass, FirstFails}
 
 -- ---- what a place passes, its task does
@@ -154,14 +155,14 @@ module _ (l : TaskList) (bounded : Bounded l) (fresh ranked : Ranked) (zeros : f
     unfolding FirstFails
     place_within = (omega (arith, bounded.keeps.few, F.within), task_below k F.within)
 
-    pub answer_refused : Err (Fails (at order k + 1)) ≡ tried (first_without (plan_of l))
+    pub answer_refused : Err (named (Fails (at order k + 1))) ≡ tried (first_without (plan_of l))
     unfolding plan_of
     answer_refused =
-        ap (λ (i : ℕ). Err (Fails i)) (add-one (at order k)) ∙ sym (tried_late (at order k)) ∙ ap tried (first_without_lem (plan_of l) sound order periods dues runtimes W k F)
+        ap (λ (i : ℕ). Err (named (Fails i))) (add-one (at order k)) ∙ sym (tried_late (at order k)) ∙ ap tried (first_without_lem (plan_of l) sound order periods dues runtimes W k F)
 
 -- ---- the bounds come first
 module _ (l : TaskList) (supply : ℕ) where
-  pub broken : (r : Refusal) → bounds_of l supply ≡ Err r → Err r ≡ quick_of l supply
+  pub broken : (r : Refusal) → bounds_of l supply ≡ Err r → Err (named r) ≡ quick_of l supply
   unfolding quick_of quick_from
   broken r e = sym (ap (quick_from l) e)
 
@@ -169,6 +170,6 @@ module _ (l : TaskList) (supply : ℕ) where
     pub kept_bounded : Bounded l × (k.cycle ≡ cycle_of l)
     kept_bounded = let K = kept_tells l supply k e in (record { supply = supply; keeps = K.keeps }, K.cycle_is)
 
-    pub kept : (r : Result (Unit {0}) Refusal) → r ≡ tried (first_without (plan_of l)) → r ≡ quick_of l supply
+    pub kept : (r : Result (Unit {0}) Refused) → r ≡ tried (first_without (plan_of l)) → r ≡ quick_of l supply
     unfolding quick_of quick_from
     kept r h = h ∙ sym (ap (quick_from l) e)

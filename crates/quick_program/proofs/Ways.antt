@@ -2,8 +2,7 @@
 use Rattle.std.specs.Prelude.{◌≡◌, List, ℕ, ◌≤◌, ◌<◌, length, Result, Ok, Err}
 use Rattle.basis.specs.Answer.{refusal, none}
 use Rattle.tasks.specs.declared.TaskList.{TaskList}
-use Rattle.tasks.specs.declared.refusals.Refusal.{Refusal}
-use Rattle.tasks.specs.Refusal.{refusal_answer}
+use Rattle.quick.specs.declared.Refused.{Refused}
 use Rattle.quick.specs.Quick.{quick_of, quick_answer}
 use Rattle.records.specs.declared.BadLine.{BadLine}
 use Rattle.records.specs.Grammar.{form_answer, list_read, read_of, Reads}
@@ -22,7 +21,7 @@ module _ {input old new : List ℕ} {r : ℕ} where
     unfolding quick_record_of read_of form_answer refusal
     answers_bad_line bad b W = record { text = _; prints = bad_line l R (bad_is_15 p bad b); written = rw b W }
 
-    module _ (list : TaskList) (good : p ≡ Ok list) (q : Result (Unit {0}) Refusal) (e : q ≡ quick_of list 65536) where
+    module _ (list : TaskList) (good : p ≡ Ok list) (q : Result (Unit {0}) Refused) (e : q ≡ quick_of list 65536) where
       answers_list : Written (quick_record_of (quick_answer q)) old new r → QuickAnswers input old new r
       unfolding read_of list_read
       answers_list W = record { text = _; prints = asked l R (good_is_0 p list good); written = rw good (rw e at W) }
@@ -31,6 +30,6 @@ module _ {input old new : List ℕ} {r : ℕ} where
       unfolding quick_record_of quick_answer none refusal
       answers_accepted done is W = answers_list (rw is W)
 
-      pub answers_refused : (f : Refusal) → q ≡ Err f → {number task : ℕ} → number ≡ (refusal_answer f).number → task ≡ (refusal_answer f).task → Written (quick_text number task) old new r → QuickAnswers input old new r
+      pub answers_refused : (f : Refused) → q ≡ Err f → Written (quick_text f.number f.task) old new r → QuickAnswers input old new r
       unfolding quick_record_of quick_answer refusal
-      answers_refused f is n t W = answers_list (rw (is, ← n, ← t) W)
+      answers_refused f is W = answers_list (rw is W)

@@ -20,7 +20,7 @@ fn answer(input: &[u8], out: &mut [u8]) -> usize
     };
     match lent::ask_list(list, 65536) {
         Ok(()) => printing::write_quick(0, 0, out),
-        Err(refusal) => printing::write_quick(refusal.number(), refusal.task(), out),
+        Err(refused) => printing::write_quick(refused.number, refused.task, out),
     }
 }
 

@@ -146,7 +146,9 @@ pub fn print(
         margin,
     } = accepted;
     let tightest = Named(task);
-    println!(rt; "cycle {cycle}, jobs {jobs}; tightest task {tightest}, margin {margin}")?;
+    print!(rt; "cycle {cycle}, jobs {jobs}; tightest task {tightest}")?;
+    say_margin(rt, b", margin ", margin)?;
+    rt.println("")?;
     if let Err(refusal) = driven.begun {
         return rt.println(Refused(refusal));
     }
@@ -156,12 +158,13 @@ pub fn print(
     print_jobs(rt, list, cycle, log, ends)
 }
 
-// Drives the list by the table through one cycle, and prints its sheet. The needs stand as the log does: a task's jobs, then the
-// next task's.
+// Drives the list through one cycle in the mode asked for, and prints its sheet. The needs stand as the log does: a task's jobs, then
+// the next task's.
 pub fn drive_and_print<const N: usize>(
     rt: &impl Print,
     name: &[u8],
     tasks: &[Task],
+    asked: Option<Mode>,
     needs: &[u32; N],
 ) -> io::Result<()> {
     let list = lent::copied(tasks);
@@ -169,14 +172,7 @@ pub fn drive_and_print<const N: usize>(
     let mut log = [0; N];
     let mut ends = [0; N];
     let driven = bench::drive(
-        list,
-        SUPPLY,
-        Some(Mode::Table),
-        0,
-        needs,
-        &mut table,
-        &mut log,
-        &mut ends,
+        list, SUPPLY, asked, 0, needs, &mut table, &mut log, &mut ends,
     );
     print(rt, name, list, driven, &log, &ends)
 }

@@ -142,9 +142,9 @@ pub extern "C" fn speed_judge(numbers: &[u32], supply: u32) -> Answer {
 pub extern "C" fn speed_quick(numbers: &[u32], supply: u32) -> Answer {
     match quick::ask(list_of(numbers), supply) {
         Ok(()) => Answer::default(),
-        Err(refusal) => Answer {
-            number: refusal.number(),
-            task: refusal.task(),
+        Err(refused) => Answer {
+            number: refused.number,
+            task: refused.task,
             ..Answer::default()
         },
     }

@@ -12,7 +12,7 @@ use Rattle.tasks.specs.List.{no_task, task_at, plan_of, list_of}
 use Rattle.tasks.specs.Refusal.{refusal_answer, bound_refusal, unless_broken}
 use Rattle.tasks.specs.Euclid.{euclid, gcd_of, lcm_of}
 use Rattle.tasks.specs.Bounds.{multiple, memory_sum, job_sum, cycle_of, jobs_of, of_count, of_numbers, of_task, of_memory, of_cycle, found, answer, bounds_of}
-use Rattle.quick.specs.Quick.{tried, quick_from, quick_of, quick_answer}
+use Rattle.quick.specs.Quick.{named, tried, quick_from, quick_of, quick_answer}
 use Rattle.starred.specs.Lists.{task, A, B, C, D, E, F, G, H}
 
 -- The answer on a list, with a supply of 0; the points of a task, tasks counted from 0.
@@ -36,7 +36,7 @@ pub record AskedQuickly : Type 0 where
   pub points_G : (points_of G 0 ≡ 4 ∷ 6 ∷ []) × (points_of G 1 ≡ 4 ∷ [])
 
 pub asked_quickly : AskedQuickly
-unfolding asked points_of A B C D E F G H task list_of plan_of no_task task_at choose within overwrite sum ceil ranks_before first_of first job key_in asks bound in_level is_multiple is_point points_from points passes_among fails_at_points first_without euclid gcd_of lcm_of multiple memory_sum job_sum cycle_of jobs_of refusal none ◌or_else◌ first_found of_count of_numbers of_task of_memory of_cycle found refusal_answer bound_refusal unless_broken answer bounds_of tried quick_from quick_of quick_answer
+unfolding asked points_of A B C D E F G H task list_of plan_of no_task task_at choose within overwrite sum ceil ranks_before first_of first job key_in asks bound in_level is_multiple is_point points_from points passes_among fails_at_points first_without euclid gcd_of lcm_of multiple memory_sum job_sum cycle_of jobs_of refusal none ◌or_else◌ first_found of_count of_numbers of_task of_memory of_cycle found refusal_answer bound_refusal unless_broken answer bounds_of named tried quick_from quick_of quick_answer
 asked_quickly = record {
   asked_A = refl;
   asked_B = refl;

@@ -42,17 +42,22 @@ module _ (l : TaskList) (supply : ℕ) where
     unfolding verdict_of verdict_from
     kept_judged = ap (verdict_from l) (bounds_kept l supply K)
 
-    for_lateness : (i s : ℕ) → (lateness (plan_of l) (cycle_of l)).task ≡ suc i → (lateness (plan_of l) (cycle_of l)).short ≡ suc s → ForLateness l supply (verdict_of l supply)
+    late_is : (i s : ℕ) → (lateness (plan_of l) (cycle_of l)).task ≡ suc i → (lateness (plan_of l) (cycle_of l)).short ≡ suc s → verdict_of l supply ≡ Err (Late (suc i) (negsuc s))
     unfolding judged
+    late_is i s task short = kept_judged
+        ∙ choose_no _ _ _ (ne_eqb (lateness (plan_of l) (cycle_of l)).task 0 (λ z. omega arith))
+        ∙ ap₂ (λ (t n : ℕ). Err (Late t (sub_ℕ 0 n))) task short
+        ∙ ap (λ (m : ℤ). Err (Late (suc i) m)) (zero_less s)
+
+    for_lateness : (i s : ℕ) → (lateness (plan_of l) (cycle_of l)).task ≡ suc i → (lateness (plan_of l) (cycle_of l)).short ≡ suc s → ForLateness l supply (verdict_of l supply)
+    unfolding verdict_answer refusal_answer
     for_lateness i s task short = record {
       keeps = K;
       place = i;
       short = s;
       earliest = rw short at (late_tells (plan_of l) plan_sound (cycle_of l) i task);
-      is = kept_judged
-          ∙ choose_no _ _ _ (ne_eqb (lateness (plan_of l) (cycle_of l)).task 0 (λ z. omega arith))
-          ∙ ap₂ (λ (t n : ℕ). Err (Late t (sub_ℕ 0 n))) task short
-          ∙ ap (λ (m : ℤ). Err (Late (suc i) m)) (zero_less s);
+      is = late_is i s task short;
+      says = ap verdict_answer (late_is i s task short);
     }
 
     late_refused : ((lateness (plan_of l) (cycle_of l)).task ≢ 0) → ForLateness l supply (verdict_of l supply)

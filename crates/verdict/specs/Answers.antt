@@ -8,7 +8,7 @@ use Rattle.tasks.specs.Refusal.{refusal_answer}
 use Rattle.tasks.specs.List.{plan_of}
 use Rattle.tasks.specs.Bounds.{bounds_of, cycle_of, jobs_of}
 use Rattle.tasks.specs.Kept.{KeepsBounds}
-use Rattle.verdict.specs.Verdict.{Verdict, accepted}
+use Rattle.verdict.specs.Verdict.{Verdict, accepted, verdict_answer}
 use Rattle.verdict.specs.Deadlines.{EarliestMissed}
 
 -- A bound is broken: refusal 1 to 6 or 20, with margin 0, and 6 with the clash.
@@ -27,6 +27,8 @@ pub record ForLateness (l : TaskList) (supply : ℕ) (v : Verdict) : Type 0 wher
   pub short : ℕ
   pub earliest : EarliestMissed (plan_of l) (cycle_of l) place (suc short)
   pub is : v ≡ Err (Late (suc place) (negsuc short))
+  -- The paper's values in full: only 6 names a clash.
+  pub says : verdict_answer v ≡ record { number = 7; task = suc place; margin = negsuc short; cycle = 0; jobs = 0; reached = 0; period = 0 }
 
 -- All bounds are kept, and every job of the cycle is on time: accepted, with the tightest task and its margin.
 pub record OnTimeAll (l : TaskList) (supply : ℕ) (v : Verdict) : Type 0 where

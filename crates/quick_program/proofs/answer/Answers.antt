@@ -14,4 +14,4 @@ returns-in-Ok-ask_list-clause-quick_answers c =
 
 pub returns-in-Err-ask_list-clause-quick_answers : goal.returns-in-Err-ask_list-clause-quick_answers
 returns-in-Err-ask_list-clause-quick_answers c =
-    answers_refused _ c.if-input-gt4096.false c.read_list.ensures _ c.in-Ok.is _ c.ask_list.ensures _ c.in-Err-ask_list.is c.number.ensures c.task.ensures c.write_quick-in-Err-ask_list.ensures.written
+    answers_refused _ c.if-input-gt4096.false c.read_list.ensures _ c.in-Ok.is _ c.ask_list.ensures _ c.in-Err-ask_list.is c.write_quick-in-Err-ask_list.ensures.written
